@@ -1,0 +1,8 @@
+pub mod Decimals
+pub mod Fields
+pub mod Headers
+pub mod Tests
+pub mod Surveys
+pub mod Places
+pub mod Parts
+pub mod Endian

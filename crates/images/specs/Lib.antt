@@ -1,0 +1,9 @@
+pub mod Header
+pub mod Samples
+pub mod Fits
+pub mod Reading
+pub mod Pgm
+pub mod Rows
+pub mod Records
+pub mod Parsed
+pub mod Numbers

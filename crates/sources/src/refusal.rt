@@ -1,0 +1,33 @@
+// The refusal of a read.
+ghost use mathlib.Core.Path.{_≡_};
+ghost use Rattle.sources.specs.Numbers.{readNumber};
+use std::fmt;
+
+/// Why a read is declined.
+#[derive(Clone, Copy, PartialEq, Eq, Debug)]
+pub enum ReadRefusal {
+    /// A place outside the frame and its margin.
+    NotReadable,
+}
+
+impl ReadRefusal {
+    /// The number under which users know the refusal.
+    pub fn number(self) -> u8
+        ensures { λ r. ⌜ r ≡ readNumber self ⌝ }
+    {
+        match self {
+            ReadRefusal::NotReadable => 20,
+        }
+    }
+}
+
+pub impl fmt::Display for ReadRefusal as ReadRefusalDisplay {
+    fn fmt<W: fmt::Write>(&self, f: &mut fmt::Formatter<W>) -> fmt::Result {
+        match *self {
+            ReadRefusal::NotReadable => write!(
+                f,
+                "the place lies outside the frame and its margin; read a place within them"
+            ),
+        }
+    }
+}
