@@ -44,11 +44,11 @@ impl Image {
         requires { ⌜ row < headerOf (now self) .height ⌝ ∗ ⌜ column < headerOf (now self) .width ⌝ }
         ensures { λ r. ⌜ r ≡ pixel (sampleAt (wide (headerOf (now (self .entry)))) (raster (now (self .entry))) (row * headerOf (now (self .entry)) .width + column)) ⌝ }
     {
-        let header = self.layout.header;
-        let start = self.layout.start;
+        let layout = self.layout;
+        let start = layout.start;
         let bytes = self.bytes.as_slice();
-        let k = row as usize * header.width as usize + column as usize;
-        Pixel(reading::sample(&bytes[start..], header.wide(), k))
+        let k = row as usize * layout.header.width as usize + column as usize;
+        Pixel(reading::sample(&bytes[start..], layout.header.wide(), k))
     }
 }
 
@@ -58,11 +58,11 @@ pub impl Source for Image as ImageSource {
     ghost meaning = { shown };
 
     fn height(&self) -> u32 {
-        self.layout.header.height
+        self.header().height
     }
 
     fn width(&self) -> u32 {
-        self.layout.header.width
+        self.header().width
     }
 
     fn margin(&self) -> i32 {
@@ -70,8 +70,9 @@ pub impl Source for Image as ImageSource {
     }
 
     fn read(&self, row: i32, column: i32) -> Result<Pixel, ReadRefusal> {
-        let height = self.layout.header.height;
-        let width = self.layout.header.width;
+        let layout = self.layout;
+        let height = layout.header.height;
+        let width = layout.header.width;
         let extent = Extent {
             height,
             width,
@@ -84,8 +85,9 @@ pub impl Source for Image as ImageSource {
     }
 
     fn read_row(&self, row: i32, first: i32, out: &mut [Pixel]) -> Result<(), ReadRefusal> {
-        let height = self.layout.header.height;
-        let width = self.layout.header.width;
+        let layout = self.layout;
+        let height = layout.header.height;
+        let width = layout.header.width;
         let extent = Extent {
             height,
             width,
@@ -94,17 +96,11 @@ pub impl Source for Image as ImageSource {
         if !extent.holds_row(row, first, out.len()) {
             return Err(ReadRefusal::NotReadable);
         }
-        let start = self.layout.start;
+        let start = layout.start;
         let bytes = self.bytes.as_slice();
         let at = nearest(height, row) as usize * width as usize;
-        row_into(
-            &bytes[start..],
-            self.layout.header.wide(),
-            at,
-            width,
-            first,
-            out,
-        );
+        let wide = layout.header.wide();
+        row_into(&bytes[start..], wide, at, width, first, out);
         Ok(())
     }
 }

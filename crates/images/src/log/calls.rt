@@ -22,6 +22,9 @@ use sources::nearest;
 // The bytes of a record: eight of key, four of stamp.
 const RECORD_BYTES: usize = 12;
 
+// A log has one column.
+const WIDTH: u32 = 1;
+
 // The number that `count` bytes from `at` on write, most significant first.
 fn big_endian(bytes: &[u8], at: usize, count: usize) -> u64
     requires { ⌜ at + count ≤ length (now bytes) ⌝ ∗ ⌜ count ≤ 8 ⌝ }
@@ -79,7 +82,7 @@ pub impl Source for Log as LogSource {
     }
 
     fn width(&self) -> u32 {
-        1
+        WIDTH
     }
 
     fn margin(&self) -> i32 {

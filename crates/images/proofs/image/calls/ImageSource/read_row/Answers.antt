@@ -31,7 +31,7 @@ row-into-requires c κs =
     let near = nearest-below (i .layout .header .height) (toZ w32 (ofZ w32 (c .args .row))) (i .rows .0) in
     let below : c .nearest .result < i .layout .header .height = omega (arith, near, c .nearest .ensures) in (
       i .columns .0,
-      row-fits (c .as-slice-bytes .result .now) (vec-items (i .bytes)) (i .layout) (c .wide .result) (c .as-slice-bytes .ensures .value) (c .wide .ensures) (c .nearest .result) (i .whole) below,
+      row-fits (c .as-slice-bytes .result .now) (vec-items (i .bytes)) (i .layout) (c .wide-wide .result) (c .as-slice-bytes .ensures .value) (c .wide-wide .ensures) (c .nearest .result) (i .whole) below,
     )
 
 pub returns : need.returns
@@ -45,7 +45,7 @@ returns c =
       shown = λ _. refl;
       filled = λ _ k l x.
           c .row-into .ensures k x l
-          ∙ ap pixel (sample-is (c .as-slice-bytes .result .now) vs (i .layout) (c .wide .result) (c .as-slice-bytes .ensures .value) (c .wide .ensures) (c .nearest .result * h .width + nearest (h .width) (toZ w32 (ofZ w32 (c .args .first)) +ℤ pos k)) _ refl)
+          ∙ ap pixel (sample-is (c .as-slice-bytes .result .now) vs (i .layout) (c .wide-wide .result) (c .as-slice-bytes .ensures .value) (c .wide-wide .ensures) (c .nearest .result * h .width + nearest (h .width) (toZ w32 (ofZ w32 (c .args .first)) +ℤ pos k)) _ refl)
           ∙ ap (λ (j : ℕ). pixel (sampleAt (wide h) raster (j * h .width + nearest (h .width) (toZ w32 (ofZ w32 (c .args .first)) +ℤ pos k)))) (c .nearest .ensures ∙ ap (nearest (h .height)) (toZ-ofZ w32 (c .args .row) (c .fits .row)))
           ∙ ap (λ (z : ℤ). pixel (sampleAt (wide h) raster (nearest (h .height) (c .args .row) * h .width + nearest (h .width) (z +ℤ pos k)))) (toZ-ofZ w32 (c .args .first) (c .fits .first));
       refused = λ n. absurd (n (d .0 (c .if-not-holds-row .left)));
