@@ -1,6 +1,7 @@
 // The reading of an image: its header, its length, its samples.
 ghost use mathlib.Core.Path.{_≡_};
 ghost use Prim.Native.Nat.{ℕ, _+_, _*_, _≤_, _<_};
+ghost use lib.Dec.{eqb};
 ghost use lib.ListN.{length};
 ghost use Rattle.std.specs.Options.{Cases};
 ghost use Rattle.std.specs.Vec.{made};
@@ -140,6 +141,12 @@ fn highest(raster: &[u8], wide: bool, count: usize) -> u16
     top
 }
 
+fn is_long(raster: &[u8], expected: usize) -> bool
+    ensures { λ r. ⌜ r ≡ eqb (length (now (raster .entry))) expected ⌝ }
+{
+    raster.len() == expected
+}
+
 // The tests that follow the header: the ranges, the length, the samples.
 fn tested(bytes: &[u8], layout: Layout) -> Result<Layout, ImageRefusal>
     requires { ⌜ layout .start ≤ length (now bytes) ⌝ }
@@ -153,7 +160,7 @@ fn tested(bytes: &[u8], layout: Layout) -> Result<Layout, ImageRefusal>
     let start = layout.start;
     let raster = &bytes[start..];
     let count = header.height as usize * header.width as usize;
-    if raster.len() != count * sample_bytes(header.wide()) {
+    if !is_long(raster, count * sample_bytes(header.wide())) {
         return Err(ImageRefusal::WrongLength);
     }
     if u32::from(highest(raster, header.wide(), count)) > header.maximum {

@@ -5,8 +5,10 @@ use std::error::AnyError;
 mod file;
 mod inspect;
 mod tally;
+mod timing;
 
 const USAGE: &str = "usage: polwenog inspect FILE..   say what each image or log holds
+       polwenog time FILE        say how long an image takes to read here
        polwenog help             this text
 
 An image is a binary PGM (P5); any other file is read as a rig log of 12-byte records.
@@ -22,6 +24,7 @@ fn run(rt: &LibcRuntime) -> Result<(), AnyError> {
     };
     match command.as_str() {
         "inspect" => inspect::inspect(rt, words),
+        "time" => timing::time(rt, words),
         "help" | "--help" | "-h" => {
             println!(rt, "{USAGE}")?;
             Ok(())
