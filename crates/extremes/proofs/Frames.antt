@@ -16,7 +16,8 @@ use Rattle.sources.specs.Meaning.{Meaning, Ranges, Readable, RowReadable, RowHo
 use Rattle.extremes.specs.declared.Found.{Found}
 use Rattle.extremes.specs.declared.lead.Lead.{Lead}
 use Rattle.extremes.specs.Leads.{Leads}
-use Rattle.extremes.specs.First.{inOrder, Before, First}
+use Rattle.extremes.specs.Leads.{inOrder}
+use Rattle.extremes.specs.First.{Before, First}
 
 module _ {E : Type 0} (m : Meaning E) (q : Ranges m) where
   pub origin-margin : Readable m (pos 0) (pos 0) → pos 0 ≤ℤ m .margin

@@ -6,7 +6,8 @@ use Prim.Native.Nat.{ℕ, _+_, _<_}
 use native.Mathlib.Omega.{arith}
 use Rattle.std.proofs.shelf.Tests.{cases-order, cases-bool, or-cases, both-ways, cond-both}
 use Rattle.extremes.specs.declared.lead.Lead.{Lead}
-use Rattle.extremes.specs.Leads.{turned, Leads}
+use Rattle.extremes.specs.Leads.{Leads}
+use Rattle.extremes.specs.First.{turned}
 
 module _ {E : Type 0} (most : E → E → Bool)
     (total : (a b : E) → (most a b || most b a) ≡ true)

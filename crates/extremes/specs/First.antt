@@ -3,7 +3,7 @@ use mathlib.Core.Path.{_≡_}
 use mathlib.Core.Bool.{Bool, true, false}
 use mathlib.Core.List.{List}
 use mathlib.Core.Logic.{_⊎_}
-use Prim.Native.Nat.{ℕ, _-_, _/_, _%_, _<_}
+use Prim.Native.Nat.{ℕ, _-_, _<_}
 use lib.IntN.{ℤ, pos}
 use lib.Signed.{_≤ℤ_}
 use Rattle.std.specs.declared.option.Option.{Option}
@@ -11,11 +11,10 @@ use Rattle.std.specs.declared.option.Option.the-variants.{Some, None}
 use Rattle.sources.specs.Meaning.{Meaning, RowHolds}
 use Rattle.extremes.specs.declared.Found.{Found}
 use Rattle.extremes.specs.declared.Extremes.{Extremes}
-use Rattle.extremes.specs.Leads.{turned}
 
--- the elements of a frame in reading order: row by row, each from its first column on
-abbrev pub inOrder : {E : Type 0} → Meaning E → ℕ → E
-inOrder m j = m .element (pos (j / m .width)) (pos (j % m .width))
+-- "at most", the other way round
+abbrev pub turned : {E : Type 0} → (E → E → Bool) → E → E → Bool
+turned most a b = most b a
 
 -- one place comes before another: in an earlier row, or in the same row and an earlier column
 abbrev pub Before : ℕ → ℕ → ℕ → ℕ → Type 0

@@ -1,19 +1,20 @@
-// The first of the lowest elements of a sequence so far.
+// The first of the lowest and the first of the highest elements of a sequence so far.
 ghost use mathlib.Core.Path.{_≡_};
 ghost use mathlib.Core.Bool.{cond};
 ghost use Prim.Native.Nat.{ℕ, _+_, _^_, _≤_, _<_};
 ghost use lib.ListN.{length, getD};
-ghost use Rattle.extremes.specs.Leads.{turned, Leads};
+ghost use Rattle.extremes.specs.First.{turned};
+ghost use Rattle.extremes.specs.Leads.{Leads};
 use elements::Order;
 
 #[derive(Clone, Copy)]
-pub struct Lead<E> {
+pub(crate) struct Lead<E> {
     pub element: E,
     pub index: u32,
 }
 
 #[derive(Clone, Copy)]
-pub struct Leaders<E> {
+pub(crate) struct Leaders<E> {
     pub low: Lead<E>,
     pub high: Lead<E>,
 }
@@ -39,7 +40,7 @@ fn higher<E: Order>(high: Lead<E>, here: Lead<E>) -> Lead<E>
 }
 
 // The leaders after one row more, whose first element has the index `start`.
-pub fn scan<E: Order>(row: &[E], start: u32, so_far: Leaders<E>) -> Leaders<E>
+pub(crate) fn scan<E: Order>(row: &[E], start: u32, so_far: Leaders<E>) -> Leaders<E>
     requires { ⌜ start + length (now row) < 2 ^ 32 ⌝ }
     ensures low { λ r. ⌜ ((element : ℕ → E) → ((k : ℕ) (d : E) → k < length (now (row .entry)) → getD (now (row .entry)) k d ≡ element (start + k)) → Leads (E·Order .most) element start («so_far» .low) → Leads (E·Order .most) element (start + length (now (row .entry))) (r .low)) ⌝ }
     ensures high { λ r. ⌜ ((element : ℕ → E) → ((k : ℕ) (d : E) → k < length (now (row .entry)) → getD (now (row .entry)) k d ≡ element (start + k)) → Leads (turned (E·Order .most)) element start («so_far» .high) → Leads (turned (E·Order .most)) element (start + length (now (row .entry))) (r .high)) ⌝ }

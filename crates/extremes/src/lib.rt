@@ -1,6 +1,6 @@
 // The lowest and the highest element of a frame, each with the first place where it is shown.
 ghost use mathlib.Core.Path.{_≡_};
-ghost use Prim.Native.Nat.{_+_, _*_, _/_, _%_, _<_};
+ghost use Prim.Native.Nat.{_/_, _%_, _<_};
 ghost use lib.ListN.{length};
 ghost use Rattle.extremes.specs.First.{Answered, Scratch};
 use lead::Lead;

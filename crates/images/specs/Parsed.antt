@@ -15,6 +15,7 @@ use Rattle.images.specs.declared.image.Image.{Image}
 use Rattle.images.specs.declared.log.Log.{Log}
 use Rattle.images.specs.declared.refusal.ImageRefusal.{ImageRefusal}
 use Rattle.images.specs.declared.refusal.LogRefusal.{LogRefusal}
+use Rattle.images.specs.declared.refusal.LogRefusal.the-variants.{NotRecords}
 use Rattle.images.specs.Samples.{imageMeaning}
 use Rattle.images.specs.Pgm.{Pgm, Declines}
 use Rattle.images.specs.Records.{Records, logMeaning}
@@ -48,4 +49,4 @@ events l = logMeaning (vec-items (l .bytes)) (l .count)
 -- bytes are a log exactly when they are records
 abbrev pub LogOutcome : List ℕ → Result Log (Declined LogRefusal) → Type 0
 LogOutcome bs (Ok l) = Records bs (l .count)
-LogOutcome bs (Err d) = (n : ℕ) → Records bs n → ⊥
+LogOutcome bs (Err d) = (d .refusal ≡ NotRecords) × ((n : ℕ) → Records bs n → ⊥)

@@ -10,7 +10,7 @@ pub struct Header {
 
 /// A header, and the place of the first byte of the raster.
 #[derive(Clone, Copy, PartialEq, Eq, Debug)]
-pub struct Layout {
+pub(crate) struct Layout {
     pub header: Header,
     pub start: usize,
 }

@@ -1,6 +1,4 @@
 // A log that owns the bytes of its file.
-ghost use mathlib.Core.Path.{_≡_};
-ghost use Prim.Native.Nat.{_*_, _≤_};
 ghost use Rattle.std.specs.Of.Vec.{vec-items};
 ghost use Rattle.images.specs.Records.{Records};
 

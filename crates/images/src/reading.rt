@@ -1,6 +1,6 @@
 // The reading of an image: its header, its length, its samples.
 ghost use mathlib.Core.Path.{_≡_};
-ghost use Prim.Native.Nat.{ℕ, _+_, _*_, _≤_, _<_};
+ghost use Prim.Native.Nat.{_+_, _*_, _≤_};
 ghost use lib.Dec.{eqb};
 ghost use lib.ListN.{length};
 ghost use Rattle.std.specs.Options.{Cases};
@@ -12,11 +12,10 @@ ghost use Rattle.images.specs.Reading.{belongs, runEnd, fieldAt, headerOf, inR
 use crate::header::Header;
 use crate::header::Layout;
 use crate::refusal::ImageRefusal;
-use elements::Pixel;
 use sources::LONGEST;
 
 #[derive(Clone, Copy)]
-pub enum Class {
+pub(crate) enum Class {
     White,
     Digit,
 }
@@ -141,7 +140,7 @@ fn highest(raster: &[u8], wide: bool, count: usize) -> u16
     top
 }
 
-fn is_long(raster: &[u8], expected: usize) -> bool
+fn has_length(raster: &[u8], expected: usize) -> bool
     ensures { λ r. ⌜ r ≡ eqb (length (now (raster .entry))) expected ⌝ }
 {
     raster.len() == expected
@@ -160,7 +159,7 @@ fn tested(bytes: &[u8], layout: Layout) -> Result<Layout, ImageRefusal>
     let start = layout.start;
     let raster = &bytes[start..];
     let count = header.height as usize * header.width as usize;
-    if !is_long(raster, count * sample_bytes(header.wide())) {
+    if !has_length(raster, count * sample_bytes(header.wide())) {
         return Err(ImageRefusal::WrongLength);
     }
     if u32::from(highest(raster, header.wide(), count)) > header.maximum {

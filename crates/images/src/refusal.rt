@@ -56,9 +56,9 @@ pub impl fmt::Display for ImageRefusal as ImageRefusalDisplay {
         let text = match *self {
             ImageRefusal::NotPgm => "not a binary PGM; export the section as P5",
             ImageRefusal::MalformedHeader =>
-                "the header is malformed or ends early; it is P5, width, height and maximum, parted by white space",
+                "the header is malformed or ends early; export the section again, without remarks",
             ImageRefusal::OutOfRange =>
-                "a side is outside 1 to 16384 or the maximum outside 1 to 65535; cut the section into shorter ones",
+                "a side is outside 1 to 16384 or the maximum outside 1 to 65535; export the section again, in shorter parts if it is long",
             ImageRefusal::WrongLength =>
                 "too few or too many bytes for its sides; copy the file again",
             ImageRefusal::AboveMaximum =>

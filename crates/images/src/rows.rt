@@ -11,7 +11,7 @@ use crate::span::Span;
 use elements::Pixel;
 
 // Writes one element at each place from `start` up to `end`.
-pub fn fill<E: Copy>(out: &mut [E], start: usize, end: usize, element: E)
+pub(crate) fn fill<E: Copy>(out: &mut [E], start: usize, end: usize, element: E)
     requires { ⌜ start ≤ end ⌝ ∗ ⌜ end ≤ length (now out) ⌝ }
     ensures { λ _. ⌜ Written (now (out .entry)) (now (out .exit)) start end (λ _. element) ⌝ }
 {
@@ -31,7 +31,14 @@ fn decode(raster: &[u8], wide: bool, at: usize, out: &mut [Pixel], start: usize,
 }
 
 // Writes a row, whose first sample is at `at`, from the column `first` on, with its edges repeated.
-pub fn row_into(raster: &[u8], wide: bool, at: usize, width: u32, first: i32, out: &mut [Pixel])
+pub(crate) fn row_into(
+    raster: &[u8],
+    wide: bool,
+    at: usize,
+    width: u32,
+    first: i32,
+    out: &mut [Pixel],
+)
     requires { ⌜ 1 ≤ width ⌝ ∗ ⌜ (at + width) * sampleBytes wide ≤ length (now raster) ⌝ }
     ensures { λ _. ⌜ ((k : ℕ) (d : Pixel) → k < length (now (out .entry)) → getD (now (out .exit)) k d ≡ pixel (sampleAt wide (now (raster .entry)) (at + nearest width (first +ℤ pos k)))) ⌝ }
 {

@@ -3,7 +3,7 @@ ghost use Rattle.images.specs.Rows.{Spanned};
 ghost use Prim.Native.Nat.{_≤_};
 
 #[derive(Clone, Copy)]
-pub struct Span {
+pub(crate) struct Span {
     // How many columns lie left of the frame.
     pub before: usize,
     // The first column of the frame.
@@ -14,7 +14,7 @@ pub struct Span {
 
 impl Span {
     // The span of `count` columns from `first` on.
-    pub fn of(width: u32, first: i32, count: usize) -> Span
+    pub(crate) fn of(width: u32, first: i32, count: usize) -> Span
         requires { ⌜ 1 ≤ width ⌝ }
         ensures { λ r. ⌜ Spanned width first count r ⌝ }
     {

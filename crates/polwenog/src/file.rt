@@ -3,43 +3,28 @@ use std::fs::File;
 use std::io;
 use std::io::Read;
 
-// A file of this length or more is announced before it is read.
+// Work on a file of this length or more is announced.
 const LONG: u64 = 64 << 20;
 
-/// The bytes of a file.
-pub fn read_whole(rt: &LibcRuntime, path: &str) -> io::Result<Vec<u8>> {
+// How much is read at a time: enough that calls cost little, small enough to stay in the cache.
+const PIECE: usize = 256 << 10;
+
+// Says on the error stream what is being done to a long file.
+pub(crate) fn announce(rt: &LibcRuntime, doing: &str, path: &str, length: u64) -> io::Result<()> {
+    if length < LONG {
+        return Ok(());
+    }
+    let megabytes = length >> 20;
+    eprintln!(rt, "polwenog: {doing} {path}, {megabytes} MB")
+}
+
+// The bytes of a file; what it has past the length that it gave, as a pipe does, is read too.
+pub(crate) fn read_whole(rt: &LibcRuntime, path: &str) -> io::Result<Vec<u8>> {
     let mut file = File::open(rt, path)?;
     let length = file.metadata()?.len();
-    if length >= LONG {
-        let megabytes = length >> 20;
-        eprintln!(rt, "polwenog: reading {path}, {megabytes} MB")?;
-    }
-    let mut bytes = vec![in rt.alloc(); 0u8; length as usize]?;
-    let filled = fill(&mut file, &mut bytes)?;
-    bytes.truncate(filled);
-    rest(&mut file, &mut bytes)?;
-    Ok(bytes)
-}
-
-// Reads until the buffer is full or the file ends; how much was read.
-fn fill(file: &mut File, bytes: &mut [u8]) -> io::Result<usize> {
-    let mut filled = 0;
-    for _ in 0..u64::MAX {
-        if filled >= bytes.len() {
-            break;
-        }
-        let count = file.read(&mut bytes[filled..])?;
-        if count == 0 {
-            break;
-        }
-        filled += count;
-    }
-    Ok(filled)
-}
-
-// Reads what a file has past the length that it gave, as a pipe does.
-fn rest(file: &mut File, bytes: &mut Vec<u8>) -> io::Result<()> {
-    let mut piece = [0u8; 4096];
+    announce(rt, "reading", path, length)?;
+    let mut bytes = Vec::with_capacity(rt.alloc(), length as usize)?;
+    let mut piece = vec![in rt.alloc(); 0u8; PIECE]?;
     for _ in 0..u64::MAX {
         let count = file.read(&mut piece)?;
         if count == 0 {
@@ -47,5 +32,5 @@ fn rest(file: &mut File, bytes: &mut Vec<u8>) -> io::Result<()> {
         }
         bytes.extend_from_slice(&piece[0..count])?;
     }
-    Ok(())
+    Ok(bytes)
 }

@@ -1,4 +1,5 @@
 // What each file holds: its kind and sides, and its lowest and highest element, or why it is refused.
+use crate::file::announce;
 use crate::file::read_whole;
 use crate::tally::Tally;
 use elements::EventDisplay;
@@ -20,8 +21,8 @@ use std::env::Args;
 use std::error::AnyError;
 use std::fmt;
 
-/// Reports on each file named; the files that cannot be opened end it.
-pub fn inspect(rt: &LibcRuntime, paths: Args) -> Result<(), AnyError> {
+// Reports on each file named; the first that cannot be read ends it.
+pub(crate) fn inspect(rt: &LibcRuntime, paths: Args) -> Result<(), AnyError> {
     let mut tally = Tally {
         sound: 0,
         refused: 0,
@@ -58,6 +59,7 @@ fn is_image(path: &str, bytes: &[u8]) -> bool {
 }
 
 fn report(rt: &LibcRuntime, path: &str, bytes: Vec<u8>, tally: Tally) -> Result<Tally, AnyError> {
+    announce(rt, "checking", path, bytes.len() as u64)?;
     if is_image(path, bytes.as_slice()) {
         report_image(rt, path, bytes, tally)
     } else {
@@ -152,11 +154,12 @@ where
         return Ok(tally);
     };
     let mut scratch = row_of(rt.alloc(), corner, source.width())?;
-    if let Some(found) = find_extremes(source, &mut scratch) {
-        let Extremes { lowest, highest } = found;
-        show(rt, "lowest", lowest)?;
-        show(rt, "highest", highest)?;
-    }
+    let Some(found) = find_extremes(source, &mut scratch) else {
+        return Ok(tally);
+    };
+    let Extremes { lowest, highest } = found;
+    show(rt, "lowest", lowest)?;
+    show(rt, "highest", highest)?;
     let samples = u64::from(source.height()).saturating_mul(u64::from(source.width()));
     Ok(Tally {
         sound: tally.sound.saturating_add(1),

@@ -8,8 +8,8 @@ use std::env::Args;
 use std::error::AnyError;
 use std::time::Instant;
 
-/// Reads an image whole, parses it, reads it place by place and row by row, and says what each took.
-pub fn time(rt: &LibcRuntime, mut paths: Args) -> Result<(), AnyError> {
+// Reads an image whole, parses it, reads it place by place and row by row, and says what each took.
+pub(crate) fn time(rt: &LibcRuntime, mut paths: Args) -> Result<(), AnyError> {
     let Some(path) = paths.next() else {
         return Err("time: name an image".into());
     };

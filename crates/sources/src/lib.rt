@@ -23,6 +23,7 @@ pub const LONGEST: u32 = 16_384;
 
 /// A frame of elements with a margin around it, read place by place or row by row.
 pub trait Source {
+    /// The kind of element that the source delivers.
     type Element: Order;
 
     // The sides, the margin, and the element at every whole-number place.
@@ -30,12 +31,15 @@ pub trait Source {
 
     law ranges: { (s : Self) → Ranges (meaning s) };
 
+    /// How many rows the frame has.
     fn height(&self) -> u32
         ensures { λ r. ⌜ r ≡ meaning (now (self .entry)) .height ⌝ };
 
+    /// How many columns the frame has.
     fn width(&self) -> u32
         ensures { λ r. ⌜ r ≡ meaning (now (self .entry)) .width ⌝ };
 
+    /// How far outside the frame places are readable; negative, how far inside it they are not.
     fn margin(&self) -> i32
         ensures { λ r. ⌜ r ≡ meaning (now (self .entry)) .margin ⌝ };
 

@@ -6,7 +6,7 @@ use std::fmt;
 /// Why a read is declined.
 #[derive(Clone, Copy, PartialEq, Eq, Debug)]
 pub enum ReadRefusal {
-    /// A place outside the frame and its margin.
+    /// A place that is not readable.
     NotReadable,
 }
 
@@ -26,7 +26,7 @@ pub impl fmt::Display for ReadRefusal as ReadRefusalDisplay {
         match *self {
             ReadRefusal::NotReadable => write!(
                 f,
-                "the place lies outside the frame and its margin; read a place within them"
+                "the place is not readable; read from minus the margin up to the side plus the margin"
             ),
         }
     }

@@ -1,8 +1,8 @@
 // Cases at the edges of the file formats and of the readable places, run and compared.
 use elements::EventDisplay;
+use elements::Pixel;
 use elements::PixelDisplay;
 use images::Image;
-use images::ImageRefusalDisplay;
 use images::ImageSource;
 use images::Log;
 use images::LogSource;
@@ -60,7 +60,7 @@ fn log(rt: &LibcRuntime, what: &str, length: usize) -> Result<(), AnyError> {
     Ok(())
 }
 
-fn headers(rt: &LibcRuntime) -> Result<(), AnyError> {
+fn starts(rt: &LibcRuntime) -> Result<(), AnyError> {
     image(rt, "no byte", b"", 0, 0)?;
     image(rt, "one byte", b"P", 0, 0)?;
     image(rt, "plain PGM", b"P2 1 1 255\n", 1, 49)?;
@@ -68,7 +68,10 @@ fn headers(rt: &LibcRuntime) -> Result<(), AnyError> {
     image(rt, "no white space after the magic", b"P51 1 255\n", 1, 1)?;
     image(rt, "no maximum", b"P5 1 1\n", 0, 0)?;
     image(rt, "a remark", b"P5 # core 7\n1 1 255\n", 1, 1)?;
-    image(rt, "a sign", b"P5 -1 1 255\n", 1, 1)?;
+    image(rt, "a sign", b"P5 -1 1 255\n", 1, 1)
+}
+
+fn headers(rt: &LibcRuntime) -> Result<(), AnyError> {
     image(rt, "five digits", b"P5 00001 00001 00255\n", 1, 1)?;
     image(rt, "six digits", b"P5 000001 1 255\n", 1, 1)?;
     image(
@@ -137,6 +140,13 @@ fn lengths(rt: &LibcRuntime) -> Result<(), AnyError> {
         0,
     )?;
     image(rt, "two-byte samples, exact", b"P5 3 2 300\n", 12, 0)?;
+    image(
+        rt,
+        "two-byte samples, one byte long",
+        b"P5 3 2 300\n",
+        13,
+        0,
+    )?;
     image(rt, "at the maximum", b"P5 3 2 9\n", 6, 9)?;
     image(rt, "above the maximum", b"P5 3 2 9\n", 6, 10)?;
     image(
@@ -182,11 +192,47 @@ where
     place(rt, source, 34, 0)?;
     place(rt, source, 0, -32)?;
     place(rt, source, 0, -33)?;
+    place(rt, source, 0, 32)?;
+    place(rt, source, 0, 33)?;
+    place(rt, source, 0, 34)?;
     place(rt, source, i32::MIN, 0)?;
     place(rt, source, i32::MAX, 0)?;
     place(rt, source, 0, i32::MIN)?;
     place(rt, source, 0, i32::MAX)?;
     place(rt, source, i32::MAX, i32::MIN)
+}
+
+// A row read into a slice of three places that hold 9 before.
+fn row(rt: &LibcRuntime, image: &Image, row: i32, first: i32) -> Result<(), AnyError> {
+    let mut out = [Pixel(9); 3];
+    let outcome = image.read_row(row, first, &mut out);
+    let [a, b, c] = out;
+    match outcome {
+        Ok(()) => println!(rt, "row {row} from {first}: {a} {b} {c}")?,
+        Err(refusal) => {
+            let number = refusal.number();
+            println!(
+                rt,
+                "row {row} from {first}: refused {number}, and the slice has {a} {b} {c}"
+            )?;
+        }
+    }
+    Ok(())
+}
+
+fn rows(rt: &LibcRuntime, image: &Image) -> Result<(), AnyError> {
+    row(rt, image, 0, 0)?;
+    row(rt, image, 1, -1)?;
+    row(rt, image, -32, -32)?;
+    row(rt, image, 0, -33)?;
+    row(rt, image, 33, 31)?;
+    row(rt, image, 33, 32)?;
+    row(rt, image, 34, 0)?;
+    row(rt, image, 0, i32::MIN)?;
+    row(rt, image, 0, i32::MAX)?;
+    let empty = image.read_row(i32::MIN, i32::MAX, &mut []).is_ok();
+    println!(rt, "a row of no place is read: {empty}")?;
+    Ok(())
 }
 
 fn reading(rt: &LibcRuntime) -> Result<(), AnyError> {
@@ -197,6 +243,7 @@ fn reading(rt: &LibcRuntime) -> Result<(), AnyError> {
     if let Ok(image) = Image::parse(bytes) {
         println!(rt, "image of two-byte samples")?;
         places(rt, &image)?;
+        rows(rt, &image)?;
     }
     let bytes = Vec::from_slice(
         rt.alloc(),
@@ -210,6 +257,7 @@ fn reading(rt: &LibcRuntime) -> Result<(), AnyError> {
 }
 
 fn main(rt: LibcRuntime) -> Result<(), AnyError> {
+    starts(&rt)?;
     headers(&rt)?;
     ranges(&rt)?;
     lengths(&rt)?;

@@ -12,8 +12,10 @@ use Rattle.std.proofs.shelf.Signed.{toZ-pos}
 use Rattle.std.proofs.shelf.Tests.{both-ways}
 use Rattle.sources.specs.Meaning.{Meaning, Ranges, RowReadable, RowHolds}
 use Rattle.extremes.specs.declared.Found.{Found}
-use Rattle.extremes.specs.Leads.{turned, Leads}
-use Rattle.extremes.specs.First.{inOrder, First}
+use Rattle.extremes.specs.Leads.{Leads}
+use Rattle.extremes.specs.First.{turned}
+use Rattle.extremes.specs.Leads.{inOrder}
+use Rattle.extremes.specs.First.{First}
 use Rattle.extremes.proofs.Frames.{margin-known, row-readable, row-elements, row-holds, leads-next, first-place, last-row}
 use Rattle.extremes.proofs.find_extremes.Given as given
 use Rattle.extremes.proofs.find_extremes.Needs as need

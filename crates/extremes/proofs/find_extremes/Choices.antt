@@ -1,8 +1,9 @@
 use Prim.Native.Nat.{_-_, _*_, _<_}
 use lib.IntN.{pos}
 use Rattle.sources.specs.Meaning.{RowHolds}
-use Rattle.extremes.specs.Leads.{turned, Leads}
-use Rattle.extremes.specs.First.{inOrder}
+use Rattle.extremes.specs.Leads.{Leads}
+use Rattle.extremes.specs.First.{turned}
+use Rattle.extremes.specs.Leads.{inOrder}
 use Rattle.extremes.proofs.find_extremes.Given as given
 
 abbrev pub Inv-loop-row : given.InvT-loop-row

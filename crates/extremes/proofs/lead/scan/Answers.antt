@@ -2,7 +2,8 @@ use mathlib.Core.Path.{_≡_, subst, _∙_}
 use Prim.Native.Nat.{ℕ, _+_}
 use lib.ListN.{length}
 use native.Mathlib.Omega.{arith}
-use Rattle.extremes.specs.Leads.{turned, Leads}
+use Rattle.extremes.specs.Leads.{Leads}
+use Rattle.extremes.specs.First.{turned}
 use Rattle.extremes.proofs.Steps.{leads-turn}
 use Rattle.extremes.proofs.lead.scan.Needs as need
 

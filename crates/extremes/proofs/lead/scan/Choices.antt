@@ -1,7 +1,8 @@
 use mathlib.Core.Path.{_≡_}
 use Prim.Native.Nat.{ℕ, _+_, _<_}
 use lib.ListN.{length, getD}
-use Rattle.extremes.specs.Leads.{turned, Leads}
+use Rattle.extremes.specs.Leads.{Leads}
+use Rattle.extremes.specs.First.{turned}
 use Rattle.extremes.proofs.lead.scan.Given as given
 
 abbrev pub Inv-loop-column : given.InvT-loop-column

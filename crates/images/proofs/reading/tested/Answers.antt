@@ -13,7 +13,7 @@ returns-then-from-header c =
     let bs = c .args .bytes .now in
     let l = c .args .layout in
     let good : inRange (l .header) ≡ true = sym (c .if-not-in-range .ensures tt) in
-    let long = part-length bs l (c .sample-bytes .result) (eqb-true _ _ (sym (c .if-not-is-long .ensures tt))) (c .sample-bytes .ensures ∙ ap sampleBytes (c .wide .ensures)) in
+    let long = part-length bs l (c .sample-bytes .result) (eqb-true _ _ (sym (c .if-not-has-length .ensures tt))) (c .sample-bytes .ensures ∙ ap sampleBytes (c .wide .ensures)) in
     let top = highest-is bs l (c .highest .result) (c .wide-2 .result) (c .wide-2 .ensures) (c .highest .ensures) in
     record { fits = tt; value = sym (tested-on bs l good long ∙ cond-false _ _ _ (lt-leb (highestOf bs l) (l .header .maximum) (omega (arith, top)))) }
 
@@ -22,7 +22,7 @@ returns c =
     let bs = c .args .bytes .now in
     let l = c .args .layout in
     let good : inRange (l .header) ≡ true = sym (c .if-not-in-range .ensures tt) in
-    let long = part-length bs l (c .sample-bytes .result) (eqb-true _ _ (sym (c .if-not-is-long .ensures tt))) (c .sample-bytes .ensures ∙ ap sampleBytes (c .wide .ensures)) in
+    let long = part-length bs l (c .sample-bytes .result) (eqb-true _ _ (sym (c .if-not-has-length .ensures tt))) (c .sample-bytes .ensures ∙ ap sampleBytes (c .wide .ensures)) in
     let top = highest-is bs l (c .highest .result) (c .wide-2 .result) (c .wide-2 .ensures) (c .highest .ensures) in
     record {
       fits = (in-range (l .header) good, omega (arith, long, c .pre));
