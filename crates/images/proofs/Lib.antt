@@ -1,7 +1,7 @@
 pub mod Decimals
 pub mod Fields
 pub mod Headers
-pub mod Tests
+pub mod Checks
 pub mod Surveys
 pub mod Places
 pub mod Parts

@@ -21,9 +21,9 @@ use Rattle.images.specs.Header.{Magic, Headed}
 use Rattle.images.specs.Samples.{wide, sampleAt}
 use Rattle.images.specs.Fits.{InRange, rasterLength}
 use Rattle.images.specs.Pgm.{sampleOf, Pgm, Declines}
-use Rattle.images.specs.Reading.{inRange, highest, highestOf, tested, ofHeader, headerOf, hasMagic, surveyed}
+use Rattle.images.specs.Reading.{inRange, highest, highestOf, checked, ofHeader, headerOf, hasMagic, surveyed}
 use Rattle.images.proofs.Headers.{magic-from, magic-to, header-from, header-to}
-use Rattle.images.proofs.Tests.{in-range, to-in-range}
+use Rattle.images.proofs.Checks.{in-range, to-in-range}
 
 module _ (w : Bool) (raster : List ℕ) (m : ℕ) where
   pub highest-under : (n : ℕ) → highest w raster n ≤ m → (k : ℕ) → k < n → sampleAt w raster k ≤ m
@@ -45,9 +45,9 @@ Outcome : List ℕ → Result Layout ImageRefusal → Type 0
 Outcome bs (Ok l) = Pgm bs (l .header) (drop (l .start) bs)
 Outcome bs (Err e) = Declines e bs
 
-tested-outcome : (bs : List ℕ) (l : Layout) → Headed bs (l .header) (drop (l .start) bs) → Outcome bs (tested bs l)
+checked-outcome : (bs : List ℕ) (l : Layout) → Headed bs (l .header) (drop (l .start) bs) → Outcome bs (checked bs l)
 unfolding Outcome
-tested-outcome bs l d =
+checked-outcome bs l d =
     let h = l .header in
     let raster = drop (l .start) bs in
     let n = length-drop (l .start) bs in
@@ -68,7 +68,7 @@ header-outcome : (bs : List ℕ) (o : Option Layout) → hasMagic bs ≡ true �
 unfolding Outcome
 header-outcome bs None g e =
     ((drop 2 bs, magic-from bs g), λ h raster d. let t = header-to bs h raster d in let u = t .1 in let z : _≡_ {A = ℕ} 0 1 = cc in omega arith)
-header-outcome bs (Some l) g e = tested-outcome bs l (header-from bs l g e)
+header-outcome bs (Some l) g e = checked-outcome bs l (header-from bs l g e)
 
 survey-outcome : (bs : List ℕ) → Outcome bs (surveyed bs)
 unfolding Outcome surveyed
@@ -87,7 +87,7 @@ survey-err bs r e = subst (Outcome bs) e (survey-outcome bs)
 
 -- bytes with a header come to the tests that follow it
 survey-headed : (bs : List ℕ) (h : Header) (raster : List ℕ) → Headed bs h raster
-    → (start : ℕ) × (surveyed bs ≡ tested bs (record { header = h; start = start })) × (drop start bs ≡ raster)
+    → (start : ℕ) × (surveyed bs ≡ checked bs (record { header = h; start = start })) × (drop start bs ≡ raster)
 unfolding surveyed
 survey-headed bs h raster d =
     let t = header-to bs h raster d in

@@ -69,8 +69,8 @@ abbrev pub highestOf : List ℕ → Layout → ℕ
 highestOf bs l = highest (wide (l .header)) (drop (l .start) bs) (l .header .height * l .header .width)
 
 -- the tests that follow the header, in order
-abbrev pub tested : List ℕ → Layout → Result Layout ImageRefusal
-tested bs l =
+abbrev pub checked : List ℕ → Layout → Result Layout ImageRefusal
+checked bs l =
     cond (inRange (l .header))
     (cond (eqb (length bs - l .start) (rasterLength (l .header)))
     (cond (leb (highestOf bs l) (l .header .maximum)) (Ok l) (Err AboveMaximum))
@@ -79,7 +79,7 @@ tested bs l =
 
 abbrev pub ofHeader : List ℕ → Option Layout → Result Layout ImageRefusal
 ofHeader bs None = Err MalformedHeader
-ofHeader bs (Some l) = tested bs l
+ofHeader bs (Some l) = checked bs l
 
 abbrev pub hasMagic : List ℕ → Bool
 hasMagic bs = leb 2 (length bs) && (eqb (getD bs 0 0) 80 && eqb (getD bs 1 0) 53)

@@ -1,6 +1,6 @@
 // What the header of an image says, and where its raster starts.
 
-/// The sides of an image and its greatest allowed sample.
+/// The sides of an image and its highest allowed sample.
 #[derive(Clone, Copy, PartialEq, Eq, Debug)]
 pub struct Header {
     pub height: u32,

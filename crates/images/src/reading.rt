@@ -8,7 +8,7 @@ ghost use Rattle.std.specs.Vec.{made};
 ghost use Rattle.images.specs.Header.{decimal as decimalOf};
 ghost use Rattle.images.specs.Samples.{wide as isWide, sampleBytes, sampleAt};
 ghost use Rattle.images.specs.Fits.{Fits};
-ghost use Rattle.images.specs.Reading.{belongs, runEnd, fieldAt, headerOf, inRange, highest as highestOf, tested as testedOf, surveyed};
+ghost use Rattle.images.specs.Reading.{belongs, runEnd, fieldAt, headerOf, inRange, highest as highestOf, checked as checkedOf, surveyed};
 use crate::header::Header;
 use crate::header::Layout;
 use crate::refusal::ImageRefusal;
@@ -146,11 +146,11 @@ fn has_length(raster: &[u8], expected: usize) -> bool
     raster.len() == expected
 }
 
-// The tests that follow the header: the ranges, the length, the samples.
-fn tested(bytes: &[u8], layout: Layout) -> Result<Layout, ImageRefusal>
+// What follows the header is checked: the ranges, the length, the samples.
+fn checked(bytes: &[u8], layout: Layout) -> Result<Layout, ImageRefusal>
     requires { ⌜ layout .start ≤ length (now bytes) ⌝ }
     ensures fits { λ r. ⌜ made r (λ l. Fits l (now (bytes .entry))) ⌝ }
-    ensures value { λ r. ⌜ r ≡ testedOf (now (bytes .entry)) layout ⌝ }
+    ensures value { λ r. ⌜ r ≡ checkedOf (now (bytes .entry)) layout ⌝ }
 {
     let header = layout.header;
     if !in_range(header) {
@@ -177,7 +177,7 @@ pub(crate) fn survey(bytes: &[u8]) -> Result<Layout, ImageRefusal>
         return Err(ImageRefusal::NotPgm);
     }
     match header(bytes) {
-        Some(layout) => tested(bytes, layout),
+        Some(layout) => checked(bytes, layout),
         None => Err(ImageRefusal::MalformedHeader),
     }
 }

@@ -3,7 +3,7 @@ ghost use mathlib.Core.Path.{_≡_};
 ghost use Rattle.images.specs.Numbers.{imageNumber, logNumber};
 use std::fmt;
 
-/// Why bytes are no image, in the order in which it is tested.
+/// Why bytes are no image, in the order in which it is looked for.
 #[derive(Clone, Copy, PartialEq, Eq, Debug)]
 pub enum ImageRefusal {
     /// The bytes do not begin with `P5`.

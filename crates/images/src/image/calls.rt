@@ -21,7 +21,7 @@ use sources::nearest;
 
 impl Image {
     /// Takes the bytes of a PGM file for an image; declined, with the bytes given back, by the first
-    /// test that they fail.
+    /// rule that they break.
     pub fn parse(bytes: Vec<u8>) -> Result<Image, Declined<ImageRefusal>>
         ensures kept { λ r. ⌜ elim r [ Ok i ↦ i .bytes ≡ bytes | Err d ↦ d .bytes ≡ bytes ] ⌝ }
         ensures outcome { λ r. ⌜ ImageOutcome (vec-items bytes) r ⌝ }

@@ -18,8 +18,8 @@ unfolding surveyed
 returns-in-Some c =
     let yes : hasMagic (c .args .bytes .now) ≡ true = grind (arith, tells) in
     record {
-      fits = c .tested .ensures .fits;
-      value = c .tested .ensures .value ∙ ap (ofHeader (c .args .bytes .now)) (c .in-Some .ensures tt .value) ∙ sym (cond-true _ _ _ yes);
+      fits = c .checked .ensures .fits;
+      value = c .checked .ensures .value ∙ ap (ofHeader (c .args .bytes .now)) (c .in-Some .ensures tt .value) ∙ sym (cond-true _ _ _ yes);
     }
 
 pub returns-in-None : need.returns-in-None

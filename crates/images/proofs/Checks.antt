@@ -17,7 +17,7 @@ use Rattle.images.specs.declared.refusal.ImageRefusal.{ImageRefusal}
 use Rattle.images.specs.declared.refusal.ImageRefusal.the-variants.{AboveMaximum}
 use Rattle.images.specs.Samples.{wide, sampleBytes}
 use Rattle.images.specs.Fits.{InRange, rasterLength}
-use Rattle.images.specs.Reading.{inRange, highest, highestOf, tested}
+use Rattle.images.specs.Reading.{inRange, highest, highestOf, checked}
 
 pub in-range : (h : Header) → inRange h ≡ true → InRange h
 in-range h e = ((grind (arith, tells), grind (arith, tells)), (grind (arith, tells), grind (arith, tells)), (grind (arith, tells), grind (arith, tells)))
@@ -31,9 +31,9 @@ module _ (bs : List ℕ) (l : Layout) where
       → length bs - l .start ≡ rasterLength (l .header)
   part-length s e q = sym (length-drop (l .start) bs) ∙ sym (ap length (take-rest bs (l .start))) ∙ e ∙ ap (λ (n : ℕ). l .header .height * l .header .width * n) q
 
-  pub tested-on : inRange (l .header) ≡ true → length bs - l .start ≡ rasterLength (l .header)
-      → tested bs l ≡ cond (leb (highestOf bs l) (l .header .maximum)) (Ok l) (Err AboveMaximum)
-  tested-on r e = cond-true _ _ _ r ∙ cond-true _ _ _ (eq-eqb _ _ e)
+  pub checked-on : inRange (l .header) ≡ true → length bs - l .start ≡ rasterLength (l .header)
+      → checked bs l ≡ cond (leb (highestOf bs l) (l .header .maximum)) (Ok l) (Err AboveMaximum)
+  checked-on r e = cond-true _ _ _ r ∙ cond-true _ _ _ (eq-eqb _ _ e)
 
   pub highest-is : (top : ℕ) (w : Bool) → w ≡ wide (l .header) → top ≡ highest w (take (length bs - l .start) (drop (l .start) bs)) (l .header .height * l .header .width)
       → top ≡ highestOf bs l
