@@ -12,9 +12,12 @@ use Rattle.images.specs.Samples.{wide, sampleBytes}
 abbrev pub Side : ℕ → Type 0
 Side n = (1 ≤ n) × (n ≤ longest)
 
--- a maximum is from 1 to 65,535
+-- the highest maximum, and a maximum from 1 to it
+abbrev pub highestMaximum : ℕ
+highestMaximum = 65535
+
 abbrev pub Maximum : ℕ → Type 0
-Maximum n = (1 ≤ n) × (n ≤ 65535)
+Maximum n = (1 ≤ n) × (n ≤ highestMaximum)
 
 abbrev pub InRange : Header → Type 0
 InRange h = Side (h .height) × Side (h .width) × Maximum (h .maximum)

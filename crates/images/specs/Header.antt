@@ -21,7 +21,11 @@ digit b = leb 48 b && leb b 57
 abbrev pub decimal : List ℕ → ℕ
 decimal ds = number 10 (map (λ d. d - 48) ds)
 
--- s is white space, a number n of one to five digits, and then t
+-- the most digits of a number in a header
+abbrev pub mostDigits : ℕ
+mostDigits = 5
+
+-- s is white space, a number n of one to so many digits, and then t
 pub record Field (s : List ℕ) (n : ℕ) (t : List ℕ) : Type 0 where
   pub gap : List ℕ
   pub digits : List ℕ
@@ -29,7 +33,7 @@ pub record Field (s : List ℕ) (n : ℕ) (t : List ℕ) : Type 0 where
   pub some-gap : 1 ≤ length gap
   pub all-white : All (λ b. white b ≡ true) gap
   pub some-digits : 1 ≤ length digits
-  pub few-digits : length digits ≤ 5
+  pub few-digits : length digits ≤ mostDigits
   pub all-digits : All (λ b. digit b ≡ true) digits
   pub value : decimal digits ≡ n
 

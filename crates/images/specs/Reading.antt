@@ -16,9 +16,9 @@ use Rattle.images.specs.declared.refusal.ImageRefusal.{ImageRefusal}
 use Rattle.images.specs.declared.refusal.ImageRefusal.the-variants.{NotPgm, MalformedHeader, OutOfRange, WrongLength, AboveMaximum}
 use Rattle.images.specs.declared.reading.Class.{Class}
 use Rattle.images.specs.declared.reading.Class.the-variants.{White, Digit}
-use Rattle.images.specs.Header.{white, digit, decimal}
+use Rattle.images.specs.Header.{white, digit, decimal, mostDigits}
 use Rattle.images.specs.Samples.{wide, sampleAt}
-use Rattle.images.specs.Fits.{rasterLength}
+use Rattle.images.specs.Fits.{highestMaximum, rasterLength}
 
 abbrev pub belongs : Class → ℕ → Bool
 belongs White b = white b
@@ -28,10 +28,10 @@ belongs Digit b = digit b
 abbrev pub runEnd : Class → List ℕ → ℕ → ℕ
 runEnd class bs at = at + leading (belongs class) (drop at bs)
 
--- white space from `at` to `start`, one to five digits from there to `end`: the number, and its end
+-- white space from `at` to `start`, one to the most digits from there to `end`: the number, and its end
 abbrev pub fieldBetween : List ℕ → ℕ → ℕ → ℕ → Option (ℕ × ℕ)
 fieldBetween bs at start end =
-    cond (eqb start at || (eqb end start || ltb 5 (end - start))) None (Some (decimal (take (end - start) (drop start bs)), end))
+    cond (eqb start at || (eqb end start || ltb mostDigits (end - start))) None (Some (decimal (take (end - start) (drop start bs)), end))
 
 abbrev pub fieldFrom : List ℕ → ℕ → ℕ → Option (ℕ × ℕ)
 fieldFrom bs at start = fieldBetween bs at start (runEnd Digit bs start)
@@ -58,7 +58,7 @@ abbrev pub sideGood : ℕ → Bool
 sideGood n = leb 1 n && leb n longest
 
 abbrev pub inRange : Header → Bool
-inRange h = sideGood (h .height) && (sideGood (h .width) && (leb 1 (h .maximum) && leb (h .maximum) 65535))
+inRange h = sideGood (h .height) && (sideGood (h .width) && (leb 1 (h .maximum) && leb (h .maximum) highestMaximum))
 
 -- the highest of the first n samples, or 0
 abbrev pub highest : Bool → List ℕ → ℕ → ℕ

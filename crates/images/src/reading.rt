@@ -5,7 +5,7 @@ ghost use lib.Dec.{eqb};
 ghost use lib.ListN.{length};
 ghost use Rattle.std.specs.Options.{Cases};
 ghost use Rattle.std.specs.Vec.{made};
-ghost use Rattle.images.specs.Header.{decimal as decimalOf};
+ghost use Rattle.images.specs.Header.{decimal as decimalOf, mostDigits};
 ghost use Rattle.images.specs.Samples.{wide as isWide, sampleBytes, sampleAt};
 ghost use Rattle.images.specs.Fits.{Fits};
 ghost use Rattle.images.specs.Reading.{belongs, runEnd, fieldAt, headerOf, inRange, highest as highestOf, checked as checkedOf, surveyed};
@@ -13,6 +13,12 @@ use crate::header::Header;
 use crate::header::Layout;
 use crate::refusal::ImageRefusal;
 use sources::LONGEST;
+
+// The most digits of a number in a header.
+const MOST_DIGITS: usize = 5;
+
+// The highest maximum that a header may give.
+const HIGHEST_MAXIMUM: u32 = 65_535;
 
 #[derive(Clone, Copy)]
 pub(crate) enum Class {
@@ -45,7 +51,7 @@ fn run_end(bytes: &[u8], at: usize, class: Class) -> usize
 
 // The number that a few digits write.
 fn decimal(digits: &[u8]) -> u32
-    requires { ⌜ length (now digits) ≤ 5 ⌝ }
+    requires { ⌜ length (now digits) ≤ mostDigits ⌝ }
     ensures { λ r. ⌜ r ≡ decimalOf (now (digits .entry)) ⌝ }
 {
     let mut sum = 0u32;
@@ -55,7 +61,7 @@ fn decimal(digits: &[u8]) -> u32
     sum
 }
 
-// White space and then a number of one to five digits: the number, and where it ends.
+// White space and then a number of one to `MOST_DIGITS` digits: the number, and where it ends.
 fn field(bytes: &[u8], at: usize) -> Option<(u32, usize)>
     requires { ⌜ at ≤ length (now bytes) ⌝ }
     ensures within { λ r. ⌜ Cases r (Unit {0}) (λ p. p .1 ≤ length (now (bytes .entry))) ⌝ }
@@ -63,7 +69,7 @@ fn field(bytes: &[u8], at: usize) -> Option<(u32, usize)>
 {
     let start = run_end(bytes, at, Class::White);
     let end = run_end(bytes, start, Class::Digit);
-    if start == at || end == start || end - start > 5 {
+    if start == at || end == start || end - start > MOST_DIGITS {
         return None;
     }
     Some((decimal(&bytes[start..end]), end))
@@ -98,7 +104,7 @@ fn in_range(header: Header) -> bool
     1 <= header.height
         && header.height <= LONGEST
         && (1 <= header.width && header.width <= LONGEST)
-        && (1 <= header.maximum && header.maximum <= 65_535)
+        && (1 <= header.maximum && header.maximum <= HIGHEST_MAXIMUM)
 }
 
 impl Header {

@@ -4,10 +4,12 @@ use std::error::AnyError;
 
 mod file;
 mod inspect;
+mod stored_form;
 mod tally;
 mod timing;
 
 const USAGE: &str = "usage: polwenog inspect FILE..   say what each image or log holds
+       polwenog stored FILE..    show the terms of each stored form
        polwenog time FILE        say how long an image takes to read here
        polwenog help             this text
 
@@ -24,6 +26,7 @@ fn run(rt: &LibcRuntime) -> Result<(), AnyError> {
     };
     match command.as_str() {
         "inspect" => inspect::inspect(rt, words),
+        "stored" => stored_form::show_stored(rt, words),
         "time" => timing::time(rt, words),
         "help" | "--help" | "-h" => {
             println!(rt, "{USAGE}")?;

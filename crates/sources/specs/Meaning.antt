@@ -42,6 +42,6 @@ RowWithin height width margin row first n = (k : ℕ) → k < n → PlaceWithin 
 abbrev pub RowReadable : {E : Type 0} → Meaning E → ℤ → ℤ → ℕ → Type 0
 RowReadable m row first n = RowWithin (m .height) (m .width) (m .margin) row first n
 
--- the first n of xs are the elements of a row from the column `first` on
+-- the first n of xs, which has so many, are the elements of a row from the column `first` on
 abbrev pub RowHolds : {E : Type 0} → Meaning E → ℤ → ℤ → ℕ → List E → Type 0
 RowHolds {E} m row first n xs = (k : ℕ) → k < n → (d : E) → getD xs k d ≡ m .element row (first +ℤ pos k)

@@ -1,0 +1,9 @@
+pub mod Bits
+pub mod Forms
+pub mod Entered
+pub mod Left
+pub mod Laws
+pub mod Whole
+pub mod Steps
+pub mod Listed
+pub mod Moving

@@ -1,0 +1,6 @@
+pub mod Entries
+pub mod Turns
+pub mod Ensuring
+pub mod Minimals
+pub mod Passing
+pub mod Composed

@@ -1,0 +1,12 @@
+use Prim.Native.Nat.{_-_}
+use lib.ListN.{length}
+use Rattle.forms.specs.Parts.{termsOf}
+use Rattle.joins.specs.Joins.{maxOf}
+use Rattle.joins.proofs.Turns.{Entering}
+use Rattle.joins.proofs.max.Given as given
+
+abbrev pub Inv-loop-term : given.InvT-loop-term
+Inv-loop-term l = Entering (maxOf (termsOf (l .f)) (termsOf (l .g))) (termsOf (l .g)) (l .i) (termsOf (l .joined))
+
+abbrev pub μ-loop-term : given.MeasureT-loop-term
+μ-loop-term l = length (termsOf (l .g)) - l .i

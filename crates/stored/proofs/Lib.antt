@@ -1,0 +1,4 @@
+pub mod Spelling
+pub mod Undoing
+pub mod Reading
+pub mod Answering

@@ -1,0 +1,9 @@
+pub mod Orders
+pub mod Levels
+pub mod Cells
+pub mod Walks
+pub mod Highs
+pub mod Marks
+pub mod Wholes
+pub mod JoinedValues
+pub mod Tellings
