@@ -20,10 +20,10 @@ pub returns-then-not-holds-row : need.returns-then-not-holds-row
 returns-then-not-holds-row g c =
     let m = g .Self·Source .meaning (c .args .self .now) in
     let q : Ranges m = g .Self·Source·met .ranges (c .args .self .now) in
-    let d = tells m (c .args .row) (c .args .first) (length (c .args .out .now)) q (c .fits .row) (c .fits .first) (c .holds-row .result) (c .height .result) (c .width .result) (c .margin .result) (c .height .ensures) (c .width .ensures) (c .margin .ensures) (c .holds-row .ensures) in
+    let d = tells m (c .args .row) (c .args .first) _ q (c .fits .row) (c .fits .first) (c .holds-row .result) (c .height .result) (c .width .result) (c .margin .result) (c .height .ensures) (c .width .ensures) (c .margin .ensures) (c .holds-row .ensures) in
     record {
-      shown = λ h. absurd (both-ways (c .holds-row .result) (c .if-not-holds-row .taken) (d .1 h));
-      filled = λ h. absurd (both-ways (c .holds-row .result) (c .if-not-holds-row .taken) (d .1 h));
+      shown = λ h. absurd (both-ways (c .holds-row .result) (c .if-not-holds-row .taken) (d .1 (λ k l. h k (omega arith))));
+      filled = λ h. absurd (both-ways (c .holds-row .result) (c .if-not-holds-row .taken) (d .1 (λ k l. h k (omega arith))));
       refused = λ h. (refl, refl);
     }
 
@@ -31,34 +31,34 @@ pub cast-i : need.cast-i
 cast-i g c =
     let m = g .Self·Source .meaning (c .args .self .now) in
     let q : Ranges m = g .Self·Source·met .ranges (c .args .self .now) in
-    let d = tells m (c .args .row) (c .args .first) (length (c .args .out .now)) q (c .fits .row) (c .fits .first) (c .holds-row .result) (c .height .result) (c .width .result) (c .margin .result) (c .height .ensures) (c .width .ensures) (c .margin .ensures) (c .holds-row .ensures) in
+    let d = tells m (c .args .row) (c .args .first) _ q (c .fits .row) (c .fits .first) (c .holds-row .result) (c .height .result) (c .width .result) (c .margin .result) (c .height .ensures) (c .width .ensures) (c .margin .ensures) (c .holds-row .ensures) in
     let h = d .0 (c .if-not-holds-row .left) in
-    let near = few m (c .args .row) (c .args .first) (length (c .args .out .now)) q (c .fits .first) h (c .loop-i .i) (c .loop-i-test .taken) in
+    let near = few m (c .args .row) (c .args .first) _ q (c .fits .first) h (c .loop-i .i) (omega arith) in
     omega (arith, ints)
 
 pub add-first : need.add-first
 add-first g c =
     let m = g .Self·Source .meaning (c .args .self .now) in
     let q : Ranges m = g .Self·Source·met .ranges (c .args .self .now) in
-    let d = tells m (c .args .row) (c .args .first) (length (c .args .out .now)) q (c .fits .row) (c .fits .first) (c .holds-row .result) (c .height .result) (c .width .result) (c .margin .result) (c .height .ensures) (c .width .ensures) (c .margin .ensures) (c .holds-row .ensures) in
+    let d = tells m (c .args .row) (c .args .first) _ q (c .fits .row) (c .fits .first) (c .holds-row .result) (c .height .result) (c .width .result) (c .margin .result) (c .height .ensures) (c .width .ensures) (c .margin .ensures) (c .holds-row .ensures) in
     let h = d .0 (c .if-not-holds-row .left) in
-    let near = few m (c .args .row) (c .args .first) (length (c .args .out .now)) q (c .fits .first) h (c .loop-i .i) (c .loop-i-test .taken) in
+    let near = few m (c .args .row) (c .args .first) _ q (c .fits .first) h (c .loop-i .i) (omega arith) in
     let f1 = c .fits .row in
     let f2 = c .fits .first in
-    let f3 = fits-at m (c .args .row) (c .args .first) (length (c .args .out .now)) q h (c .loop-i .i) (c .loop-i-test .taken) in
+    let f3 = fits-at m (c .args .row) (c .args .first) _ q h (c .loop-i .i) (omega arith) in
     omega (arith, ints)
 
 pub returns-in-Break-element : need.returns-in-Break-element
 returns-in-Break-element g c =
     let m = g .Self·Source .meaning (c .args .self .now) in
     let q : Ranges m = g .Self·Source·met .ranges (c .args .self .now) in
-    let d = tells m (c .args .row) (c .args .first) (length (c .args .out .now)) q (c .fits .row) (c .fits .first) (c .holds-row .result) (c .height .result) (c .width .result) (c .margin .result) (c .height .ensures) (c .width .ensures) (c .margin .ensures) (c .holds-row .ensures) in
+    let d = tells m (c .args .row) (c .args .first) _ q (c .fits .row) (c .fits .first) (c .holds-row .result) (c .height .result) (c .width .result) (c .margin .result) (c .height .ensures) (c .width .ensures) (c .margin .ensures) (c .holds-row .ensures) in
     let h = d .0 (c .if-not-holds-row .left) in
-    let near = few m (c .args .row) (c .args .first) (length (c .args .out .now)) q (c .fits .first) h (c .loop-i .i) (c .loop-i-test .taken) in
+    let near = few m (c .args .row) (c .args .first) _ q (c .fits .first) h (c .loop-i .i) (omega arith) in
     let f1 = c .fits .row in
     let f2 = c .fits .first in
-    let f3 = fits-at m (c .args .row) (c .args .first) (length (c .args .out .now)) q h (c .loop-i .i) (c .loop-i-test .taken) in
-    let t = c .read .ensures .shown (at m (c .args .row) (c .args .first) (length (c .args .out .now)) h (c .loop-i .i) (c .loop-i-test .taken) _ _ (toZ-ofZ w32 (c .args .row) f1) (omega (arith, ints))) in
+    let f3 = fits-at m (c .args .row) (c .args .first) _ q h (c .loop-i .i) (omega arith) in
+    let t = c .read .ensures .shown (at m (c .args .row) (c .args .first) _ h (c .loop-i .i) (omega arith) _ _ (toZ-ofZ w32 (c .args .row) f1) (omega (arith, ints))) in
     let w = c .in-Break-element .was tt in
     let z : _≡_ {A = ℕ} 0 1 = cc in absurd (omega arith)
 
@@ -66,15 +66,15 @@ pub loop-i-again : need.loop-i-again
 loop-i-again g c =
     let m = g .Self·Source .meaning (c .args .self .now) in
     let q : Ranges m = g .Self·Source·met .ranges (c .args .self .now) in
-    let d = tells m (c .args .row) (c .args .first) (length (c .args .out .now)) q (c .fits .row) (c .fits .first) (c .holds-row .result) (c .height .result) (c .width .result) (c .margin .result) (c .height .ensures) (c .width .ensures) (c .margin .ensures) (c .holds-row .ensures) in
+    let d = tells m (c .args .row) (c .args .first) _ q (c .fits .row) (c .fits .first) (c .holds-row .result) (c .height .result) (c .width .result) (c .margin .result) (c .height .ensures) (c .width .ensures) (c .margin .ensures) (c .holds-row .ensures) in
     let h = d .0 (c .if-not-holds-row .left) in
-    let near = few m (c .args .row) (c .args .first) (length (c .args .out .now)) q (c .fits .first) h (c .loop-i .i) (c .loop-i-test .taken) in
+    let near = few m (c .args .row) (c .args .first) _ q (c .fits .first) h (c .loop-i .i) (omega arith) in
     let f1 = c .fits .row in
     let f2 = c .fits .first in
-    let f3 = fits-at m (c .args .row) (c .args .first) (length (c .args .out .now)) q h (c .loop-i .i) (c .loop-i-test .taken) in
+    let f3 = fits-at m (c .args .row) (c .args .first) _ q h (c .loop-i .i) (omega arith) in
     let place = toZ w32 (ofZ w32 (toZ w32 (ofZ w32 (c .args .first)) +ℤ toZ w32 (c .loop-i .i))) in
     let e : place ≡ c .args .first +ℤ pos (c .loop-i .i) = omega (arith, ints) in
-    let t = c .read .ensures .shown (at m (c .args .row) (c .args .first) (length (c .args .out .now)) h (c .loop-i .i) (c .loop-i-test .taken) _ _ (toZ-ofZ w32 (c .args .row) f1) e) in
+    let t = c .read .ensures .shown (at m (c .args .row) (c .args .first) _ h (c .loop-i .i) (omega arith) _ _ (toZ-ofZ w32 (c .args .row) f1) e) in
     let w = c .in-Continue-element .was tt in
     let s : c .in-Continue-element .element ≡ m .element (toZ w32 (ofZ w32 (c .args .row))) place = cc in
     let o : place ≡ toZ w32 (ofZ w32 (c .args .first)) +ℤ pos (c .loop-i .i) = omega (arith, ints) in
@@ -84,10 +84,10 @@ pub returns : need.returns
 returns g c =
     let m = g .Self·Source .meaning (c .args .self .now) in
     let q : Ranges m = g .Self·Source·met .ranges (c .args .self .now) in
-    let d = tells m (c .args .row) (c .args .first) (length (c .args .out .now)) q (c .fits .row) (c .fits .first) (c .holds-row .result) (c .height .result) (c .width .result) (c .margin .result) (c .height .ensures) (c .width .ensures) (c .margin .ensures) (c .holds-row .ensures) in
+    let d = tells m (c .args .row) (c .args .first) _ q (c .fits .row) (c .fits .first) (c .holds-row .result) (c .height .result) (c .width .result) (c .margin .result) (c .height .ensures) (c .width .ensures) (c .margin .ensures) (c .holds-row .ensures) in
     let h = d .0 (c .if-not-holds-row .left) in
     record {
       shown = λ _. refl;
       filled = λ _. holds-all m (c .args .row) (c .args .first) (length (c .args .out .now)) _ _ (c .loop-i .i) (c .loop-i .out) (toZ-ofZ w32 (c .args .row) (c .fits .row)) (toZ-ofZ w32 (c .args .first) (c .fits .first)) (c .loop-i-test .left) (c .loop-i .inv);
-      refused = λ n. absurd (n h);
+      refused = λ n. absurd (n (λ k l. h k (omega arith)));
     }
