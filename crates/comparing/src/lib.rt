@@ -1,4 +1,6 @@
 // Comparing two texts: they have the same samples everywhere, or a witness shows where they differ.
+#![tactic(auto)]
+
 mod comparing;
 mod comparison;
 mod witness;

@@ -1,4 +1,6 @@
 // Element kinds: plain values under one comparison, "at most", and the lesser and greater of two.
+#![tactic(auto)]
+
 ghost use Rattle.std.specs.Prelude.{◌≡◌, Bool, true, ◌||◌};
 ghost use Rattle.elements.specs.Order.{lesser, greater, Lowest, Highest};
 

@@ -1,4 +1,6 @@
 // Worked examples of expressions, proved by computation.
+#![tactic(auto)]
+
 ghost use Rattle.std.specs.Prelude.{◌≡◌, length};
 ghost use Rattle.examples.specs.Table.{table, Hold};
 

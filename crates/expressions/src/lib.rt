@@ -1,4 +1,6 @@
 // Expressions: compiling a text to its form.
+#![tactic(auto)]
+
 mod calls;
 mod compiling;
 mod faults;

@@ -1,4 +1,6 @@
 // The lowest and the highest element of a frame, each with the first place where it is shown.
+#![tactic(auto)]
+
 ghost use Rattle.std.specs.Prelude.{◌≡◌, ◌/◌, ◌%◌, ◌<◌, length};
 ghost use Rattle.extremes.specs.First.{Answered, Scratch};
 

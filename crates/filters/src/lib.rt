@@ -1,4 +1,6 @@
 // The basic filters as forms: erosion, dilation, opening, closing, ranks and weighted ranks.
+#![tactic(auto)]
+
 mod basic;
 mod boxes;
 mod ranks;

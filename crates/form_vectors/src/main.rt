@@ -1,4 +1,6 @@
 // Cases of joining, composing, valuing, saving and loading forms, run and compared; with `time`, how long they take.
+#![tactic(auto)]
+
 use anyhow::anyhow;
 use boxes::{at, dilation, erosion, median};
 use elements::Pixel;

@@ -1,4 +1,6 @@
 // Cells of the window, sets of cells, terms, and forms as their irredundant terms.
+#![tactic(auto)]
+
 mod faults;
 mod sets;
 mod tables;

@@ -1,4 +1,6 @@
 // The grammar of expressions: words, numbers in their ranges, cells and boxes, read from tokens.
+#![tactic(auto)]
+
 mod faults;
 mod parts;
 mod readers;

@@ -1,4 +1,6 @@
 // Images and logs: the files of the line camera and of the rigs, as sources.
+#![tactic(auto)]
+
 mod declined;
 mod header;
 mod image;

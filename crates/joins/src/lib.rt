@@ -1,4 +1,6 @@
 // The max and the min of two forms, and one form after another.
+#![tactic(auto)]
+
 ghost use Rattle.std.specs.Prelude.{◌≡◌, ℕ, ◌++◌, map, bit_or};
 ghost use Rattle.forms.specs.Entering.{Minimal};
 ghost use Rattle.forms.specs.Parts.{terms_of, told, outcome};

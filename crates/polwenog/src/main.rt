@@ -1,4 +1,6 @@
 // The program: what the files of the laboratory hold, and which filter an expression is.
+#![tactic(auto)]
+
 use anyhow::anyhow;
 use std::env;
 

@@ -1,4 +1,6 @@
 // What is said of a text: its form, or why it is refused and where.
+#![tactic(auto)]
+
 mod lines;
 mod places;
 mod reports;

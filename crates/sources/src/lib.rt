@@ -1,4 +1,6 @@
 // Sources: whatever shows an element of one kind at each readable place.
+#![tactic(auto)]
+
 ghost use Rattle.std.specs.Prelude.{◌≡◌, length, Ok, Err};
 ghost use Rattle.sources.specs.Meaning.{Meaning, Ranges, Readable, RowReadable, RowHolds};
 ghost use Rattle.sources.specs.declared.refusal.ReadRefusal.TheVariants.{NotReadable};

@@ -1,4 +1,6 @@
 // The value of a form over a window of elements, for every kind of element.
+#![tactic(auto)]
+
 mod windows;
 
 pub use windows::Window;

@@ -1,4 +1,6 @@
 // Cases at the edges of the file formats and of the readable places, run and compared.
+#![tactic(auto)]
+
 use elements::Pixel;
 use images::{Image, Log};
 use sources::Source;
