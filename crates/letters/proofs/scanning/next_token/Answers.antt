@@ -14,6 +14,6 @@ pub returns : goal.returns
 returns c =
     let text : List ℕ = c.args.text.now in
     record {
-      next = next_is c.token-at.result text c.args.at (subst (λ (i : ℕ). Gives c.token-at.result (cut_of (drop i text)) i) c.run-end-start.ensures c.token-at.ensures);
+      next = next_is c.token_at.result text c.args.at (subst (λ (i : ℕ). Gives c.token_at.result (cut_of (drop i text)) i) c.run_end-start.ensures c.token_at.ensures);
       spelling = only_spelling text;
     }

@@ -6,44 +6,44 @@ use Rattle.sources.proofs.Rows.{tells, fits_at, few, at, holds_more, holds_all}
 use Rattle.sources.proofs.Source.read_row.Given as given
 use Rattle.sources.proofs.Source.read_row.Goals as goal
 
-pub returns-then-not-holds-row : goal.returns-then-not-holds-row
-returns-then-not-holds-row g c =
+pub returns-then-not-holds_row : goal.returns-then-not-holds_row
+returns-then-not-holds_row g c =
     let m = g.Self.Source.meaning c.args.self.now in
     let q : Ranges m = g.met.Self.Source.ranges c.args.self.now in
-    let d = tells m c.args.row c.args.first _ q c.ranges.row c.ranges.first c.holds-row.result c.height.result c.width.result c.margin.result c.height.ensures c.width.ensures c.margin.ensures c.holds-row.ensures in
+    let d = tells m c.args.row c.args.first _ q c.ranges.row c.ranges.first c.holds_row.result c.height.result c.width.result c.margin.result c.height.ensures c.width.ensures c.margin.ensures c.holds_row.ensures in
     record {
-      shown = λ h. absurd (both_ways c.holds-row.result c.if-not-holds-row.true (d.1 (λ k l. h k (omega arith))));
-      filled = λ h. absurd (both_ways c.holds-row.result c.if-not-holds-row.true (d.1 (λ k l. h k (omega arith))));
+      shown = λ h. absurd (both_ways c.holds_row.result c.if-not-holds_row.true (d.1 (λ k l. h k (omega arith))));
+      filled = λ h. absurd (both_ways c.holds_row.result c.if-not-holds_row.true (d.1 (λ k l. h k (omega arith))));
       refused = λ h. (refl, refl);
     }
 
-pub overflow-cast-i : goal.overflow-cast-i
-overflow-cast-i g c =
+pub overflow_cast-i : goal.overflow_cast-i
+overflow_cast-i g c =
     let m = g.Self.Source.meaning c.args.self.now in
     let q : Ranges m = g.met.Self.Source.ranges c.args.self.now in
-    let d = tells m c.args.row c.args.first _ q c.ranges.row c.ranges.first c.holds-row.result c.height.result c.width.result c.margin.result c.height.ensures c.width.ensures c.margin.ensures c.holds-row.ensures in
-    let h = d.0 c.if-not-holds-row.false in
+    let d = tells m c.args.row c.args.first _ q c.ranges.row c.ranges.first c.holds_row.result c.height.result c.width.result c.margin.result c.height.ensures c.width.ensures c.margin.ensures c.holds_row.ensures in
+    let h = d.0 c.if-not-holds_row.false in
     let near = few m c.args.row c.args.first _ q c.ranges.first h c.loop-i.i (omega arith) in
     omega (arith, ints)
 
-pub overflow-add-first : goal.overflow-add-first
-overflow-add-first g c =
+pub overflow_add-first : goal.overflow_add-first
+overflow_add-first g c =
     let m = g.Self.Source.meaning c.args.self.now in
     let q : Ranges m = g.met.Self.Source.ranges c.args.self.now in
-    let d = tells m c.args.row c.args.first _ q c.ranges.row c.ranges.first c.holds-row.result c.height.result c.width.result c.margin.result c.height.ensures c.width.ensures c.margin.ensures c.holds-row.ensures in
-    let h = d.0 c.if-not-holds-row.false in
+    let d = tells m c.args.row c.args.first _ q c.ranges.row c.ranges.first c.holds_row.result c.height.result c.width.result c.margin.result c.height.ensures c.width.ensures c.margin.ensures c.holds_row.ensures in
+    let h = d.0 c.if-not-holds_row.false in
     let near = few m c.args.row c.args.first _ q c.ranges.first h c.loop-i.i (omega arith) in
     let f1 = c.ranges.row in
     let f2 = c.ranges.first in
     let f3 = fits_at m c.args.row c.args.first _ q h c.loop-i.i (omega arith) in
     omega (arith, ints)
 
-pub returns-in-err-element : goal.returns-in-err-element
-returns-in-err-element g c =
+pub returns-in_err-element : goal.returns-in_err-element
+returns-in_err-element g c =
     let m = g.Self.Source.meaning c.args.self.now in
     let q : Ranges m = g.met.Self.Source.ranges c.args.self.now in
-    let d = tells m c.args.row c.args.first _ q c.ranges.row c.ranges.first c.holds-row.result c.height.result c.width.result c.margin.result c.height.ensures c.width.ensures c.margin.ensures c.holds-row.ensures in
-    let h = d.0 c.if-not-holds-row.false in
+    let d = tells m c.args.row c.args.first _ q c.ranges.row c.ranges.first c.holds_row.result c.height.result c.width.result c.margin.result c.height.ensures c.width.ensures c.margin.ensures c.holds_row.ensures in
+    let h = d.0 c.if-not-holds_row.false in
     let near = few m c.args.row c.args.first _ q c.ranges.first h c.loop-i.i (omega arith) in
     let f1 = c.ranges.row in
     let f2 = c.ranges.first in
@@ -56,8 +56,8 @@ pub loop-i-preserved : goal.loop-i-preserved
 loop-i-preserved g c =
     let m = g.Self.Source.meaning c.args.self.now in
     let q : Ranges m = g.met.Self.Source.ranges c.args.self.now in
-    let d = tells m c.args.row c.args.first _ q c.ranges.row c.ranges.first c.holds-row.result c.height.result c.width.result c.margin.result c.height.ensures c.width.ensures c.margin.ensures c.holds-row.ensures in
-    let h = d.0 c.if-not-holds-row.false in
+    let d = tells m c.args.row c.args.first _ q c.ranges.row c.ranges.first c.holds_row.result c.height.result c.width.result c.margin.result c.height.ensures c.width.ensures c.margin.ensures c.holds_row.ensures in
+    let h = d.0 c.if-not-holds_row.false in
     let near = few m c.args.row c.args.first _ q c.ranges.first h c.loop-i.i (omega arith) in
     let f1 = c.ranges.row in
     let f2 = c.ranges.first in
@@ -74,8 +74,8 @@ pub returns : goal.returns
 returns g c =
     let m = g.Self.Source.meaning c.args.self.now in
     let q : Ranges m = g.met.Self.Source.ranges c.args.self.now in
-    let d = tells m c.args.row c.args.first _ q c.ranges.row c.ranges.first c.holds-row.result c.height.result c.width.result c.margin.result c.height.ensures c.width.ensures c.margin.ensures c.holds-row.ensures in
-    let h = d.0 c.if-not-holds-row.false in
+    let d = tells m c.args.row c.args.first _ q c.ranges.row c.ranges.first c.holds_row.result c.height.result c.width.result c.margin.result c.height.ensures c.width.ensures c.margin.ensures c.holds_row.ensures in
+    let h = d.0 c.if-not-holds_row.false in
     record {
       shown = λ _. refl;
       filled = λ _. holds_all m c.args.row c.args.first (length c.args.out.now) _ _ c.loop-i.i c.loop-i.out (to_z-of_z w32 c.args.row c.ranges.row) (to_z-of_z w32 c.args.first c.ranges.first) c.loop-i-test.false c.loop-i.invariant;

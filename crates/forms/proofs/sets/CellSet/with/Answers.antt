@@ -15,8 +15,8 @@ one_more s n c l m = ((λ h. to ((has_or s (single n) c).0 h)), from)
     from (inl h) = (has_or s (single n) c).1 (inl h)
     from (inr e) = (has_or s (single n) c).1 (inr (subst (λ (y : ℕ). Has (single n) y) (sym e) (has_single n)))
 
-pub invariant-of-result : goal.invariant-of-result
-invariant-of-result c = (or_small c.args.self.bits c.mask.result c.args.self.fits c.mask.ensures.fits, tt)
+pub invariant_of-result : goal.invariant_of-result
+invariant_of-result c = record { fits = or_small c.args.self.bits c.mask.result c.args.self.fits c.mask.ensures.fits }
 
 pub returns : goal.returns
 returns c =

@@ -34,8 +34,8 @@ returns-then-covers c =
       kept = tt;
     }
 
-pub returns-then-count-eq-MOST-TERMS : goal.returns-then-count-eq-MOST-TERMS
-returns-then-count-eq-MOST-TERMS c =
+pub returns-then-count-eq-MOST_TERMS : goal.returns-then-count-eq-MOST_TERMS
+returns-then-count-eq-MOST_TERMS c =
     let f : List ℕ = terms_of c.args.self.now in
     let t : ℕ = c.args.term.bits in
     let size : length c.thin-count.result.0 ≡ most_terms = search rules in
@@ -48,27 +48,12 @@ returns-then-count-eq-MOST-TERMS c =
       kept = search rules;
     }
 
-pub invariant-of-self : goal.invariant-of-self
-invariant-of-self c =
+pub invariant_of-self : goal.invariant_of-self
+invariant_of-self c =
     let f : List ℕ = terms_of c.args.self.now in
     let t : ℕ = c.number-t.result in
     let e = entered t f _ _ c.if-covers.ensures c.thin-count.ensures.kept c.insert-terms.ensures in
-    let w : Sound f = sound_of f c.args.self.now.ascending c.args.self.now.apart in (
-      search rules,
-      (
-        search rules,
-        (
-          search rules,
-          (
-            ∣ subst Terms e (enter_terms t f c.number-t.ensures.some c.number-t.ensures.fits (terms_of_lem f c.args.self.now.sets)) ∣₁,
-            (
-              ∣ subst Ascending e (sound_ascending (enter t f) (enters t f w)) ∣₁,
-              (∣ subst Apart e (apart (enter t f) (enters t f w)) ∣₁, tt),
-            ),
-          ),
-        ),
-      ),
-    )
+    let w : Sound f = sound_of f c.args.self.now.ascending c.args.self.now.apart in record { size = search rules; some = search rules; room = search rules; sets = ∣ subst Terms e (enter_terms t f c.number-t.ensures.some c.number-t.ensures.fits (terms_of_lem f c.args.self.now.sets)) ∣₁; ascending = ∣ subst Ascending e (sound_ascending (enter t f) (enters t f w)) ∣₁; apart = ∣ subst Apart e (apart (enter t f) (enters t f w)) ∣₁ }
 
 pub returns : goal.returns
 returns c =
@@ -79,7 +64,7 @@ returns c =
     let n : ℕ = c.thin-count.result.1 + 1 in
     let e : enter t f ≡ take n c.insert-terms.result =
     ap (λ (y : ℕ). enter y f) (sym v) ∙ entered u f _ _ c.if-covers.ensures c.thin-count.ensures.kept c.insert-terms.ensures in
-    let l : length (take n c.insert-terms.result) ≤ most_terms = omega (arith, length-take n c.insert-terms.result, c.if-count-eq-MOST-TERMS.false, c.thin-count.ensures.fewer, c.args.self.now.room) in
+    let l : length (take n c.insert-terms.result) ≤ most_terms = omega (arith, length-take n c.insert-terms.result, c.if-count-eq-MOST_TERMS.false, c.thin-count.ensures.fewer, c.args.self.now.room) in
     record {
       exact = sym (ap bounded e ∙ bounded_made (take n c.insert-terms.result) l);
       minimal = subst (λ (y : List ℕ). Minimal (t ∷ f) y) e (enter_minimal t f (sound_of f c.args.self.now.ascending c.args.self.now.apart));

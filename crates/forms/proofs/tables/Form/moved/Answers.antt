@@ -20,7 +20,7 @@ slid-requires c =
     let f = c.args.self.now in
     let i : ℕ = c.loop-i.i in
     let t : ℕ = get_or f.table.terms i 0 in
-    let m : movable c.args.to.number t ≡ true = fits_movable c.args.to.number (terms_of f) (sym c.if-not-stays-at.ensures.exact) t (at_in f i c.loop-i-test.true) in (
+    let m : movable c.args.to.number t ≡ true = fits_movable c.args.to.number (terms_of f) (sym c.if-not-stays_at.ensures.exact) t (at_in f i c.loop-i-test.true) in (
       c.number.ensures.bound,
       ((at_term_lem f i c.loop-i-test.true).1, ap (λ (n : ℕ). movable n t) c.number.ensures.value ∙ m),
     )
@@ -36,35 +36,20 @@ loop-i-preserved c =
           (c.slid.ensures ∙ ap (λ (n : ℕ). moved n (get_or f.table.terms i 0)) c.number.ensures.value),
     )
 
-pub invariant-of-result : goal.invariant-of-result
-invariant-of-result c =
+pub invariant_of-result : goal.invariant_of-result
+invariant_of-result c =
     let f = c.args.self.now in
     let n : ℕ = c.args.to.number in
     let e = sym (end (moved n) f.table.terms c.loop-i.terms f.table.count c.loop-i.i (omega arith) c.loop-i.invariant.1) in
-    let s = movable_fits n (terms_of f) (sym c.if-not-stays-at.ensures.exact) in
-    let w : Sound (map (moved n) (terms_of f)) = moved_sound n (terms_of f) c.args.to.within (sets_form f) s (sound_form f) in (
-      c.loop-i.invariant.0,
-      (
-        f.some,
-        (
-          f.room,
-          (
-            ∣ subst Terms e (moved_terms n (terms_of f) c.args.to.within (sets_form f) s) ∣₁,
-            (
-              ∣ subst Ascending e (sound_ascending (map (moved n) (terms_of f)) w) ∣₁,
-              (∣ subst Apart e (apart (map (moved n) (terms_of f)) w) ∣₁, tt),
-            ),
-          ),
-        ),
-      ),
-    )
+    let s = movable_fits n (terms_of f) (sym c.if-not-stays_at.ensures.exact) in
+    let w : Sound (map (moved n) (terms_of f)) = moved_sound n (terms_of f) c.args.to.within (sets_form f) s (sound_form f) in record { size = c.loop-i.invariant.0; some = f.some; room = f.room; sets = ∣ subst Terms e (moved_terms n (terms_of f) c.args.to.within (sets_form f) s) ∣₁; ascending = ∣ subst Ascending e (sound_ascending (map (moved n) (terms_of f)) w) ∣₁; apart = ∣ subst Apart e (apart (map (moved n) (terms_of f)) w) ∣₁ }
 
 pub returns : goal.returns
 returns c =
     let f = c.args.self.now in
     let n : ℕ = c.args.to.number in
     let e = end (moved n) f.table.terms c.loop-i.terms f.table.count c.loop-i.i (omega arith) c.loop-i.invariant.1 in
-    let q = sym c.if-not-stays-at.ensures.exact in
+    let q = sym c.if-not-stays_at.ensures.exact in
     let s = movable_fits n (terms_of f) q in
     record {
       exact = (q, e);

@@ -27,13 +27,13 @@ module _ (c s from : ℕ) (e : every (stays c) (cells_from from s) ≡ movable c
 pub loop-cell-init : goal.loop-cell-init
 loop-cell-init c = (omega arith, ap (every (stays c.args.to.number)) (sym (cells_whole c.used-used.result.bits)))
 
-pub returns-then-is-none : goal.returns-then-is-none
-returns-then-is-none c =
+pub returns-then-is_none : goal.returns-then-is_none
+returns-then-is_none c =
     let f : List ℕ = terms_of c.args.self.now in
     let n : ℕ = c.args.to.number in
     let s : ℕ = c.used-used.result.bits in
     let k : ℕ = c.in-Some.cell.number in
-    let t : stays n k ≡ false = stay_test c.plus.result c.is-none.result n k c.is-none.ensures c.plus.ensures ∙ ap not c.if-is-none.true in
+    let t : stays n k ≡ false = stay_test c.plus.result c.is_none.result n k c.is_none.ensures c.plus.ensures ∙ ap not c.if-is_none.true in
     let e : false ≡ movable n (used f) =
     ap (λ (b : Bool). b && every (stays n) (cells_from (k + 1) s)) (sym t)
     ∙ next n s c.loop-cell.from c.loop-cell.invariant.1 k c.in-Some.ensures.1 ∙ ap (movable n) c.used-used.ensures.value in
@@ -44,7 +44,7 @@ loop-cell-preserved c =
     let n : ℕ = c.args.to.number in
     let s : ℕ = c.used-used.result.bits in
     let k : ℕ = c.in-Some.cell.number in
-    let t : stays n k ≡ true = stay_test c.plus.result c.is-none.result n k c.is-none.ensures c.plus.ensures ∙ ap not c.if-is-none.false in (
+    let t : stays n k ≡ true = stay_test c.plus.result c.is_none.result n k c.is_none.ensures c.plus.ensures ∙ ap not c.if-is_none.false in (
       omega (arith, c.number-from.ensures.bound),
       ap (λ (i : ℕ). every (stays n) (cells_from (i + 1) s)) c.number-from.ensures.value
           ∙ ap (λ (b : Bool). b && every (stays n) (cells_from (k + 1) s)) (sym t)
@@ -59,5 +59,5 @@ returns c =
     let f : List ℕ = terms_of c.args.self.now in
     let n : ℕ = c.args.to.number in
     let s : ℕ = c.used-used.result.bits in
-    let e : true ≡ movable n (used f) = none n s c.loop-cell.from c.loop-cell.invariant.1 c.in-default.ensures ∙ ap (movable n) c.used-used.ensures.value in
+    let e : true ≡ movable n (used f) = none n s c.loop-cell.from c.loop-cell.invariant.1 c.in_default.ensures ∙ ap (movable n) c.used-used.ensures.value in
     record { exact = e; window = decides true n f e }

@@ -22,8 +22,8 @@ loop-i-preserved c =
     ap (λ (u : ℕ). used_from (bit_or c.loop-i.all u) (drop (i + 1) f)) (sym (at c.args.self.now i c.loop-i-test.true))
     ∙ ap (used_from c.loop-i.all) (sym (drop_more f i 0 l)) ∙ c.loop-i.invariant
 
-pub from-bits-requires : goal.from-bits-requires
-from-bits-requires c =
+pub from_bits-requires : goal.from_bits-requires
+from_bits-requires c =
     let f = c.args.self.now in
     let e = end f c.loop-i.all c.loop-i.i c.loop-i.invariant c.loop-i-test.false in (
       omega (arith, e, used_some (terms_of f) _ (in_at (terms_of f) 0 (size_some f)) (sets_form f)),
@@ -33,7 +33,7 @@ from-bits-requires c =
 pub returns : goal.returns
 returns c =
     let f : List ℕ = terms_of c.args.self.now in
-    let e : c.from-bits.result.bits ≡ used f = c.from-bits.ensures ∙ end c.args.self.now c.loop-i.all c.loop-i.i c.loop-i.invariant c.loop-i-test.false in
+    let e : c.from_bits.result.bits ≡ used f = c.from_bits.ensures ∙ end c.args.self.now c.loop-i.all c.loop-i.i c.loop-i.invariant c.loop-i-test.false in
     record {
       value = e;
       cells = λ k. ((λ h. used_uses f k (subst (λ (y : ℕ). Has y k) e h)), λ u. subst (λ (y : ℕ). Has y k) (sym e) (uses_used f k u));
