@@ -8,18 +8,18 @@ use Rattle.joins.specs.Joins.{enter_all}
 use Rattle.joins.proofs.Turns.{map_at, map_below, map_above, entering_more, entering_stop, entering_all}
 use Rattle.joins.proofs.enter_unions.Goals as goal
 
-pub returns-in-err-enter : goal.returns-in-err-enter
-returns-in-err-enter c =
+pub returns-in_err-enter : goal.returns-in_err-enter
+returns-in_err-enter c =
     let g : List ℕ = terms_of c.args.g.now in
     let k : ℕ → ℕ = λ u. bit_or c.args.term.bits u in
     let o = enter_all (map k g) (terms_of c.args.joined.now) in
     let h : List ℕ = terms_of c.enter.new.self in
     let q = c.in-Some.ensures in
-    let p = err_from_is_err_and c.from-residual.result c.from-residual.ensures.1 in
+    let p = err_from_is_err_and c.from_residual.result c.from_residual.ensures.1 in
     rw (p.1, p.2)
     (entering_stop o (map k g) c.loop-other.i (terms_of c.loop-other.joined) c.loop-other.invariant (map_below k g c.loop-other.i q.0)
     c.union.result.bits (c.union.ensures.value ∙ map_at k g c.loop-other.i c.in-Some.other.bits q.0 q.1)
-    (told c.enter.result h) c.enter.ensures.exact (fault_number c.in-err-enter.field-0.0) (ap (λ r. told r h) c.in-err-enter.was))
+    (told c.enter.result h) c.enter.ensures.exact (fault_number c.in_err-enter.field-0.0) (ap (λ r. told r h) c.in_err-enter.was))
 
 pub loop-other-preserved : goal.loop-other-preserved
 loop-other-preserved c =
@@ -30,11 +30,11 @@ loop-other-preserved c =
     let q = c.in-Some.ensures in
     entering_more o (map k g) c.loop-other.i (terms_of c.loop-other.joined) c.loop-other.invariant (map_below k g c.loop-other.i q.0)
     c.union.result.bits (c.union.ensures.value ∙ map_at k g c.loop-other.i c.in-Some.other.bits q.0 q.1)
-    (told c.enter.result h) c.enter.ensures.exact h (ap (λ r. told r h) c.in-ok-enter.was)
+    (told c.enter.result h) c.enter.ensures.exact h (ap (λ r. told r h) c.in_ok-enter.was)
 
 pub returns : goal.returns
 returns c =
     let g : List ℕ = terms_of c.args.g.now in
     let k : ℕ → ℕ = λ u. bit_or c.args.term.bits u in
     entering_all (enter_all (map k g) (terms_of c.args.joined.now)) (map k g) c.loop-other.i (terms_of c.loop-other.joined) c.loop-other.invariant
-    (map_above k g c.loop-other.i c.in-default.ensures)
+    (map_above k g c.loop-other.i c.in_default.ensures)

@@ -11,19 +11,19 @@ use Rattle.joins.proofs.Ensuring.{max_ensured}
 use Rattle.joins.proofs.Minimals.{max_minimal}
 use Rattle.joins.proofs.max.Goals as goal
 
-pub returns-in-err-enter : goal.returns-in-err-enter
-returns-in-err-enter c =
+pub returns-in_err-enter : goal.returns-in_err-enter
+returns-in_err-enter c =
     let f : List ℕ = terms_of c.args.f.now in
     let g : List ℕ = terms_of c.args.g.now in
     let h : List ℕ = terms_of c.enter.new.self in
     let q = c.in-Some.ensures in
-    let p = err_from_is_err_and c.from-residual.result c.from-residual.ensures.1 in
-    let e : outcome c.from-residual.result ≡ max_of f g =
+    let p = err_from_is_err_and c.from_residual.result c.from_residual.ensures.1 in
+    let e : outcome c.from_residual.result ≡ max_of f g =
     rw (p.1, p.2)
     (entering_stop (max_of f g) g c.loop-term.i (terms_of c.loop-term.joined) c.loop-term.invariant q.0
     c.in-Some.term.bits q.1 (told c.enter.result h) c.enter.ensures.exact
-    (fault_number c.in-err-enter.field-0.0) (ap (λ r. told r h) c.in-err-enter.was)) in
-    record { exact = e; minimal = max_minimal c.from-residual.result c.args.f.now g e; truth = max_ensured c.from-residual.result f g e }
+    (fault_number c.in_err-enter.field-0.0) (ap (λ r. told r h) c.in_err-enter.was)) in
+    record { exact = e; minimal = max_minimal c.from_residual.result c.args.f.now g e; truth = max_ensured c.from_residual.result f g e }
 
 pub loop-term-preserved : goal.loop-term-preserved
 loop-term-preserved c =
@@ -32,11 +32,11 @@ loop-term-preserved c =
     let h : List ℕ = terms_of c.enter.new.self in
     let q = c.in-Some.ensures in
     entering_more (max_of f g) g c.loop-term.i (terms_of c.loop-term.joined) c.loop-term.invariant q.0
-    c.in-Some.term.bits q.1 (told c.enter.result h) c.enter.ensures.exact h (ap (λ r. told r h) c.in-ok-enter.was)
+    c.in-Some.term.bits q.1 (told c.enter.result h) c.enter.ensures.exact h (ap (λ r. told r h) c.in_ok-enter.was)
 
 pub returns : goal.returns
 returns c =
     let f : List ℕ = terms_of c.args.f.now in
     let g : List ℕ = terms_of c.args.g.now in
-    let e : made (terms_of c.loop-term.joined) ≡ max_of f g = entering_all (max_of f g) g c.loop-term.i (terms_of c.loop-term.joined) c.loop-term.invariant c.in-default.ensures in
+    let e : made (terms_of c.loop-term.joined) ≡ max_of f g = entering_all (max_of f g) g c.loop-term.i (terms_of c.loop-term.joined) c.loop-term.invariant c.in_default.ensures in
     record { exact = e; minimal = max_minimal (Ok c.loop-term.joined) c.args.f.now g e; truth = max_ensured (Ok c.loop-term.joined) f g e }

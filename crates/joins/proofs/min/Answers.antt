@@ -20,32 +20,32 @@ loop-term-init c =
     c.union.ensures.value ∙ ap (λ (y : ℕ). bit_or y c.first-2.result.bits) c.first.ensures ∙ ap (λ (y : ℕ). bit_or (get_or f 0 0) y) c.first-2.ensures in
     subst (λ (y : List ℕ). Uniting (min_of f g) f g 0 y) (sym c.single-joined.ensures) (uniting_start f g t (size_some c.args.f.now) (size_some c.args.g.now) e)
 
-pub returns-in-err-enter-unions : goal.returns-in-err-enter-unions
-returns-in-err-enter-unions c =
+pub returns-in_err-enter_unions : goal.returns-in_err-enter_unions
+returns-in_err-enter_unions c =
     let f : List ℕ = terms_of c.args.f.now in
     let g : List ℕ = terms_of c.args.g.now in
-    let h : List ℕ = terms_of c.enter-unions.new.joined in
+    let h : List ℕ = terms_of c.enter_unions.new.joined in
     let q = c.in-Some.ensures in
-    let p = err_from_is_err_and c.from-residual.result c.from-residual.ensures.1 in
-    let e : outcome c.from-residual.result ≡ min_of f g =
+    let p = err_from_is_err_and c.from_residual.result c.from_residual.ensures.1 in
+    let e : outcome c.from_residual.result ≡ min_of f g =
     rw (p.1, p.2)
     (uniting_stop (min_of f g) f g c.loop-term.i (terms_of c.loop-term.joined) c.loop-term.invariant q.0
-    c.in-Some.term.bits q.1 (told c.enter-unions.result h) c.enter-unions.ensures
-    (fault_number c.in-err-enter-unions.field-0.0) (ap (λ r. told r h) c.in-err-enter-unions.was)) in
-    record { exact = e; minimal = min_minimal c.from-residual.result f g e; truth = min_ensured c.from-residual.result f g e }
+    c.in-Some.term.bits q.1 (told c.enter_unions.result h) c.enter_unions.ensures
+    (fault_number c.in_err-enter_unions.field-0.0) (ap (λ r. told r h) c.in_err-enter_unions.was)) in
+    record { exact = e; minimal = min_minimal c.from_residual.result f g e; truth = min_ensured c.from_residual.result f g e }
 
 pub loop-term-preserved : goal.loop-term-preserved
 loop-term-preserved c =
     let f : List ℕ = terms_of c.args.f.now in
     let g : List ℕ = terms_of c.args.g.now in
-    let h : List ℕ = terms_of c.enter-unions.new.joined in
+    let h : List ℕ = terms_of c.enter_unions.new.joined in
     let q = c.in-Some.ensures in
     uniting_more (min_of f g) f g c.loop-term.i (terms_of c.loop-term.joined) c.loop-term.invariant q.0
-    c.in-Some.term.bits q.1 (told c.enter-unions.result h) c.enter-unions.ensures h (ap (λ r. told r h) c.in-ok-enter-unions.was)
+    c.in-Some.term.bits q.1 (told c.enter_unions.result h) c.enter_unions.ensures h (ap (λ r. told r h) c.in_ok-enter_unions.was)
 
 pub returns : goal.returns
 returns c =
     let f : List ℕ = terms_of c.args.f.now in
     let g : List ℕ = terms_of c.args.g.now in
-    let e : made (terms_of c.loop-term.joined) ≡ min_of f g = uniting_all (min_of f g) f g c.loop-term.i (terms_of c.loop-term.joined) c.loop-term.invariant c.in-default.ensures in
+    let e : made (terms_of c.loop-term.joined) ≡ min_of f g = uniting_all (min_of f g) f g c.loop-term.i (terms_of c.loop-term.joined) c.loop-term.invariant c.in_default.ensures in
     record { exact = e; minimal = min_minimal (Ok c.loop-term.joined) f g e; truth = min_ensured (Ok c.loop-term.joined) f g e }

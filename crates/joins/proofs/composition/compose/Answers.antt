@@ -39,58 +39,58 @@ returns-then-not-stays c =
     let x = compose_out (terms_of e) (terms_of f) (sym s) in
     record { exact = x; truth = tt; window = stays_leaves (terms_of e) (terms_of f) (sym s) }
 
-pub at-term-requires : goal.at-term-requires
-at-term-requires c = movable_term c.args.e.now c.args.f.now c.if-not-stays.ensures 0 c.first.result.bits (size_some c.args.e.now) c.first.ensures
+pub at_term-requires : goal.at_term-requires
+at_term-requires c = movable_term c.args.e.now c.args.f.now c.if-not-stays.ensures 0 c.first.result.bits (size_some c.args.e.now) c.first.ensures
 
-pub at-term-requires-in-Some : goal.at-term-requires-in-Some
-at-term-requires-in-Some c = movable_term c.args.e.now c.args.f.now c.if-not-stays.ensures c.loop-term.i c.in-Some.term.bits c.in-Some.ensures.0 c.in-Some.ensures.1
+pub at_term-requires-in-Some : goal.at_term-requires-in-Some
+at_term-requires-in-Some c = movable_term c.args.e.now c.args.f.now c.if-not-stays.ensures c.loop-term.i c.in-Some.term.bits c.in-Some.ensures.0 c.in-Some.ensures.1
 
-pub returns-in-err-joined : goal.returns-in-err-joined
-returns-in-err-joined c =
+pub returns-in_err-joined : goal.returns-in_err-joined
+returns-in_err-joined c =
     let e = c.args.e.now in
     let f = c.args.f.now in
-    let p = err_from_is_err_and c.from-residual.result c.from-residual.ensures.1 in
-    let q : outcome c.from-residual.result ≡ any_at (terms_of f) (terms_of e) =
+    let p = err_from_is_err_and c.from_residual.result c.from_residual.ensures.1 in
+    let q : outcome c.from_residual.result ≡ any_at (terms_of f) (terms_of e) =
     rw (p.1, p.2)
-    (first_stop (terms_of f) (terms_of e) c.first.result.bits (size_some e) c.first.ensures (outcome c.at-term.result) c.at-term.ensures
-    (fault_number c.in-err-joined.field-0.0) (ap outcome c.in-err-joined.was)) in
-    let r = promised c.from-residual.result e f c.if-not-stays.ensures q in
+    (first_stop (terms_of f) (terms_of e) c.first.result.bits (size_some e) c.first.ensures (outcome c.at_term.result) c.at_term.ensures
+    (fault_number c.in_err-joined.field-0.0) (ap outcome c.in_err-joined.was)) in
+    let r = promised c.from_residual.result e f c.if-not-stays.ensures q in
     record { exact = r.exact; truth = r.truth; window = r.window }
 
 pub loop-term-init : goal.loop-term-init
 loop-term-init c =
     let e = c.args.e.now in
     let f = c.args.f.now in
-    first_more (terms_of f) (terms_of e) c.first.result.bits (size_some e) c.first.ensures (outcome c.at-term.result) c.at-term.ensures
-    (terms_of c.in-ok-joined.joined) (ap outcome c.in-ok-joined.was)
+    first_more (terms_of f) (terms_of e) c.first.result.bits (size_some e) c.first.ensures (outcome c.at_term.result) c.at_term.ensures
+    (terms_of c.in_ok-joined.joined) (ap outcome c.in_ok-joined.was)
 
-pub returns-in-err-next : goal.returns-in-err-next
-returns-in-err-next c =
+pub returns-in_err-next : goal.returns-in_err-next
+returns-in_err-next c =
     let e = c.args.e.now in
     let f = c.args.f.now in
     let t = c.in-Some.ensures in
-    let p = err_from_is_err_and c.from-residual-in-err-next.result c.from-residual-in-err-next.ensures.1 in
-    let q : outcome c.from-residual-in-err-next.result ≡ any_at (terms_of f) (terms_of e) =
+    let p = err_from_is_err_and c.from_residual-in_err-next.result c.from_residual-in_err-next.ensures.1 in
+    let q : outcome c.from_residual-in_err-next.result ≡ any_at (terms_of f) (terms_of e) =
     rw (p.1, p.2)
     (term_stop (terms_of f) (terms_of e) (any_at (terms_of f) (terms_of e)) c.loop-term.i (terms_of c.loop-term.joined) c.loop-term.invariant t.0
-    c.in-Some.term.bits t.1 (outcome c.at-term-in-Some.result) c.at-term-in-Some.ensures
-    (fault_number c.in-err-next.field-0.0) (ap outcome c.in-err-next.was)) in
-    let r = promised c.from-residual-in-err-next.result e f c.if-not-stays.ensures q in
+    c.in-Some.term.bits t.1 (outcome c.at_term-in-Some.result) c.at_term-in-Some.ensures
+    (fault_number c.in_err-next.field-0.0) (ap outcome c.in_err-next.was)) in
+    let r = promised c.from_residual-in_err-next.result e f c.if-not-stays.ensures q in
     record { exact = r.exact; truth = r.truth; window = r.window }
 
-pub returns-in-err-joined-2 : goal.returns-in-err-joined-2
-returns-in-err-joined-2 c =
+pub returns-in_err-joined-2 : goal.returns-in_err-joined-2
+returns-in_err-joined-2 c =
     let e = c.args.e.now in
     let f = c.args.f.now in
     let t = c.in-Some.ensures in
-    let p = err_from_is_err_and c.from-residual-in-err-joined-2.result c.from-residual-in-err-joined-2.ensures.1 in
-    let q : outcome c.from-residual-in-err-joined-2.result ≡ any_at (terms_of f) (terms_of e) =
+    let p = err_from_is_err_and c.from_residual-in_err-joined-2.result c.from_residual-in_err-joined-2.ensures.1 in
+    let q : outcome c.from_residual-in_err-joined-2.result ≡ any_at (terms_of f) (terms_of e) =
     rw (p.1, p.2)
     (max_stop (terms_of f) (terms_of e) (any_at (terms_of f) (terms_of e)) c.loop-term.i (terms_of c.loop-term.joined) c.loop-term.invariant t.0
-    c.in-Some.term.bits t.1 (outcome c.at-term-in-Some.result) c.at-term-in-Some.ensures
-    (terms_of c.in-ok-next.next) (ap outcome c.in-ok-next.was) (outcome c.max.result) c.max.ensures.exact
-    (fault_number c.in-err-joined-2.field-0.0) (ap outcome c.in-err-joined-2.was)) in
-    let r = promised c.from-residual-in-err-joined-2.result e f c.if-not-stays.ensures q in
+    c.in-Some.term.bits t.1 (outcome c.at_term-in-Some.result) c.at_term-in-Some.ensures
+    (terms_of c.in_ok-next.next) (ap outcome c.in_ok-next.was) (outcome c.max.result) c.max.ensures.exact
+    (fault_number c.in_err-joined-2.field-0.0) (ap outcome c.in_err-joined-2.was)) in
+    let r = promised c.from_residual-in_err-joined-2.result e f c.if-not-stays.ensures q in
     record { exact = r.exact; truth = r.truth; window = r.window }
 
 pub loop-term-preserved : goal.loop-term-preserved
@@ -99,15 +99,15 @@ loop-term-preserved c =
     let f = c.args.f.now in
     let t = c.in-Some.ensures in
     max_more (terms_of f) (terms_of e) (any_at (terms_of f) (terms_of e)) c.loop-term.i (terms_of c.loop-term.joined) c.loop-term.invariant t.0
-    c.in-Some.term.bits t.1 (outcome c.at-term-in-Some.result) c.at-term-in-Some.ensures
-    (terms_of c.in-ok-next.next) (ap outcome c.in-ok-next.was) (outcome c.max.result) c.max.ensures.exact
-    (terms_of c.in-ok-joined-2.joined) (ap outcome c.in-ok-joined-2.was)
+    c.in-Some.term.bits t.1 (outcome c.at_term-in-Some.result) c.at_term-in-Some.ensures
+    (terms_of c.in_ok-next.next) (ap outcome c.in_ok-next.was) (outcome c.max.result) c.max.ensures.exact
+    (terms_of c.in_ok-joined-2.joined) (ap outcome c.in_ok-joined-2.was)
 
 pub returns : goal.returns
 returns c =
     let e = c.args.e.now in
     let f = c.args.f.now in
     let q : made (terms_of c.loop-term.joined) ≡ any_at (terms_of f) (terms_of e) =
-    term_end (terms_of f) (terms_of e) (any_at (terms_of f) (terms_of e)) c.loop-term.i (terms_of c.loop-term.joined) c.loop-term.invariant c.in-default.ensures in
+    term_end (terms_of f) (terms_of e) (any_at (terms_of f) (terms_of e)) c.loop-term.i (terms_of c.loop-term.joined) c.loop-term.invariant c.in_default.ensures in
     let r = promised (Ok c.loop-term.joined) e f c.if-not-stays.ensures q in
     record { exact = r.exact; truth = r.truth; window = r.window }

@@ -7,17 +7,17 @@ use Rattle.joins.proofs.composition.stays.Goals as goal
 pub loop-cell-init : goal.loop-cell-init
 loop-cell-init c = (omega arith, staying_start (terms_of c.args.e.now) (terms_of c.args.f.now) c.used-used.result.bits c.used-used.ensures.value (cells_whole c.used-used.result.bits))
 
-pub returns-then-not-stays-at : goal.returns-then-not-stays-at
-returns-then-not-stays-at c =
+pub returns-then-not-stays_at : goal.returns-then-not-stays_at
+returns-then-not-stays_at c =
     staying_stop (terms_of c.args.e.now) (terms_of c.args.f.now) c.used-used.result.bits c.loop-cell.from c.loop-cell.invariant.1
-    c.in-Some.cell.number c.in-Some.ensures.1 c.stays-at.result c.stays-at.ensures.exact c.if-not-stays-at.true
+    c.in-Some.cell.number c.in-Some.ensures.1 c.stays_at.result c.stays_at.ensures.exact c.if-not-stays_at.true
 
 pub loop-cell-preserved : goal.loop-cell-preserved
 loop-cell-preserved c = (
   omega (arith, c.number-from.ensures.bound),
   staying_more (terms_of c.args.e.now) (terms_of c.args.f.now) c.used-used.result.bits c.loop-cell.from c.loop-cell.invariant.1
-      c.in-Some.cell.number c.in-Some.ensures.1 c.stays-at.result c.stays-at.ensures.exact
-      c.number-from.result c.number-from.ensures.value c.if-not-stays-at.false,
+      c.in-Some.cell.number c.in-Some.ensures.1 c.stays_at.result c.stays_at.ensures.exact
+      c.number-from.result c.number-from.ensures.value c.if-not-stays_at.false,
 )
 
 pub loop-cell-smaller : goal.loop-cell-smaller
@@ -25,4 +25,4 @@ loop-cell-smaller c = omega (arith, c.number-from.ensures.value, c.number-from.e
 
 pub returns : goal.returns
 returns c =
-    staying_end (terms_of c.args.e.now) (terms_of c.args.f.now) c.used-used.result.bits c.loop-cell.from c.loop-cell.invariant.1 c.in-default.ensures
+    staying_end (terms_of c.args.e.now) (terms_of c.args.f.now) c.used-used.result.bits c.loop-cell.from c.loop-cell.invariant.1 c.in_default.ensures

@@ -49,7 +49,7 @@ returns-in_err-element g c =
     let f2 = c.ranges.first in
     let f3 = fits_at m c.args.row c.args.first _ q h c.loop-i.i (omega arith) in
     let t = c.read.ensures.shown (at m c.args.row c.args.first _ h c.loop-i.i (omega arith) _ _ (to_z-of_z w32 c.args.row f1) (omega (arith, ints))) in
-    let w = c.in-err-element.was in
+    let w = c.in_err-element.was in
     let z : ◌≡◌ {A = ℕ} 0 1 = cc in absurd (omega arith)
 
 pub loop-i-preserved : goal.loop-i-preserved
@@ -65,8 +65,8 @@ loop-i-preserved g c =
     let place = to_z w32 (of_z w32 (to_z w32 (of_z w32 c.args.first) +ℤ to_z w32 c.loop-i.i)) in
     let e : place ≡ c.args.first +ℤ pos c.loop-i.i = omega (arith, ints) in
     let t = c.read.ensures.shown (at m c.args.row c.args.first _ h c.loop-i.i (omega arith) _ _ (to_z-of_z w32 c.args.row f1) e) in
-    let w = c.in-ok-element.was in
-    let s : c.in-ok-element.element ≡ m.element (to_z w32 (of_z w32 c.args.row)) place = cc in
+    let w = c.in_ok-element.was in
+    let s : c.in_ok-element.element ≡ m.element (to_z w32 (of_z w32 c.args.row)) place = cc in
     let o : place ≡ to_z w32 (of_z w32 c.args.first) +ℤ pos c.loop-i.i = omega (arith, ints) in
     holds_more m (to_z w32 (of_z w32 c.args.row)) (to_z w32 (of_z w32 c.args.first)) 0 c.loop-i.out c.loop-i.i _ (omega (arith, c.loop-i.auto.out)) (s ∙ ap (m.element (to_z w32 (of_z w32 c.args.row))) o) c.loop-i.invariant
 

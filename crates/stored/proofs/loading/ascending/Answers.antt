@@ -15,7 +15,7 @@ returns-then-term-before c =
     let i : ℕ = c.loop-i.i in
     let l : i < length (terms_in count_bits bytes c.args.count) = omega (arith, terms_length count_bits bytes c.args.count, c.loop-i-test.true) in
     ascending_stop (terms_in count_bits bytes c.args.count) i c.loop-i.before c.loop-i.invariant l c.field-term.result
-    (read bytes c.args.count i c.field-term.result c.term-start.result c.loop-i-test.true c.field-term.ensures.value c.term-start.ensures) c.if-term-before.true
+    (read bytes c.args.count i c.field-term.result c.term_start.result c.loop-i-test.true c.field-term.ensures.value c.term_start.ensures) c.if-term-before.true
 
 pub loop-i-preserved : goal.loop-i-preserved
 loop-i-preserved c =
@@ -23,7 +23,7 @@ loop-i-preserved c =
     let i : ℕ = c.loop-i.i in
     let l : i < length (terms_in count_bits bytes c.args.count) = omega (arith, terms_length count_bits bytes c.args.count, c.loop-i-test.true) in
     ascending_more (terms_in count_bits bytes c.args.count) i c.loop-i.before c.loop-i.invariant l c.field-term.result
-    (read bytes c.args.count i c.field-term.result c.term-start.result c.loop-i-test.true c.field-term.ensures.value c.term-start.ensures) c.if-term-before.false
+    (read bytes c.args.count i c.field-term.result c.term_start.result c.loop-i-test.true c.field-term.ensures.value c.term_start.ensures) c.if-term-before.false
 
 pub returns : goal.returns
 returns c =

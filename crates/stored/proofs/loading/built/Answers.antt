@@ -18,15 +18,15 @@ loop-i-init c =
     let l : 0 < length (terms_in count_bits bytes n) = omega (arith, terms_length count_bits bytes n, c.requires.0) in
     c.single-form.ensures ∙ ap (λ (y : ℕ). y ∷ []) (c.term.ensures ∙ sym (terms_at count_bits bytes n 0 c.requires.0)) ∙ sym (first_taken (terms_in count_bits bytes n) l)
 
-pub returns-then-is-true-on : goal.returns-then-is-true-on
-returns-then-is-true-on c =
+pub returns-then-is_true_on : goal.returns-then-is_true_on
+returns-then-is_true_on c =
     let bytes : List ℕ = c.args.bytes.now in
     let n : ℕ = c.args.count in
     let i : ℕ = c.loop-i.i in
     let l : i < length (terms_in count_bits bytes n) = omega (arith, terms_length count_bits bytes n, c.loop-i-test.true) in
     turn_refused (terms_in count_bits bytes n) (terms_of c.loop-i.form) (ascends_to 0 (terms_in count_bits bytes n) c.requires.1.1.1).1 i
     c.term-next.result.bits c.set.result.bits l c.loop-i.invariant (c.term-next.ensures ∙ sym (terms_at count_bits bytes n i c.loop-i-test.true)) c.set.ensures
-    (c.is-true-on.ensures.terms.0 c.if-is-true-on.true)
+    (c.is_true_on.ensures.terms.0 c.if-is_true_on.true)
 
 pub unreachable-requires : goal.unreachable-requires
 unreachable-requires c =
@@ -36,8 +36,8 @@ unreachable-requires c =
     let l : i < length (terms_in count_bits bytes n) = omega (arith, terms_length count_bits bytes n, c.loop-i-test.true) in
     turn_never (terms_in count_bits bytes n) (terms_of c.loop-i.form) (ascends_to 0 (terms_in count_bits bytes n) c.requires.1.1.1).1 i
     c.term-next.result.bits c.set.result.bits l c.loop-i.invariant (c.term-next.ensures ∙ sym (terms_at count_bits bytes n i c.loop-i-test.true)) c.set.ensures
-    (λ h. both_ways c.is-true-on.result c.if-is-true-on.false (c.is-true-on.ensures.terms.1 h))
-    (below i n c.loop-i-test.true c.requires.1.0) _ c.in-default.ensures.exact
+    (λ h. both_ways c.is_true_on.result c.if-is_true_on.false (c.is_true_on.ensures.terms.1 h))
+    (below i n c.loop-i-test.true c.requires.1.0) _ c.in_default.ensures.exact
 
 pub loop-i-preserved : goal.loop-i-preserved
 loop-i-preserved c =
@@ -47,7 +47,7 @@ loop-i-preserved c =
     let l : i < length (terms_in count_bits bytes n) = omega (arith, terms_length count_bits bytes n, c.loop-i-test.true) in
     turn_more (terms_in count_bits bytes n) (terms_of c.loop-i.form) (ascends_to 0 (terms_in count_bits bytes n) c.requires.1.1.1).1 i
     c.term-next.result.bits c.set.result.bits l c.loop-i.invariant (c.term-next.ensures ∙ sym (terms_at count_bits bytes n i c.loop-i-test.true)) c.set.ensures
-    (λ h. both_ways c.is-true-on.result c.if-is-true-on.false (c.is-true-on.ensures.terms.1 h))
+    (λ h. both_ways c.is_true_on.result c.if-is_true_on.false (c.is_true_on.ensures.terms.1 h))
     (below i n c.loop-i-test.true c.requires.1.0) (terms_of c.enter.new.self) c.in-Ok.ensures.exact
 
 pub returns : goal.returns

@@ -3,11 +3,11 @@ use Rattle.stored.specs.Packing.{bit_at}
 use Rattle.stored.proofs.Spelling.{spelled_more, below_more}
 use Rattle.stored.proofs.loading.field.Goals as goal
 
-pub overflow-mul-number : goal.overflow-mul-number
-overflow-mul-number c = let l : c.loop-k.k ≤ 62 = omega arith in let p : 2 ^ c.loop-k.k ≤ 2 ^ 62 = pow_mono l in omega (arith, c.loop-k.invariant.1)
+pub overflow_mul-number : goal.overflow_mul-number
+overflow_mul-number c = let l : c.loop-k.k ≤ 62 = omega arith in let p : 2 ^ c.loop-k.k ≤ 2 ^ 62 = pow_mono l in omega (arith, c.loop-k.invariant.1)
 
-pub overflow-add-number : goal.overflow-add-number
-overflow-add-number c = let l : c.loop-k.k ≤ 62 = omega arith in let p : 2 ^ c.loop-k.k ≤ 2 ^ 62 = pow_mono l in omega (arith, c.loop-k.invariant.1)
+pub overflow_add-number : goal.overflow_add-number
+overflow_add-number c = let l : c.loop-k.k ≤ 62 = omega arith in let p : 2 ^ c.loop-k.k ≤ 2 ^ 62 = pow_mono l in omega (arith, c.loop-k.invariant.1)
 
 pub loop-k-preserved : goal.loop-k-preserved
 loop-k-preserved c = (

@@ -16,14 +16,14 @@ returns-then-bytes-lt2 c =
     ] in
     record { exact = e; back = tt; widths = stored_loaded }
 
-pub returns-then-bytes-bytes-for : goal.returns-then-bytes-bytes-for
-returns-then-bytes-bytes-for c =
+pub returns-then-bytes-bytes_for : goal.returns-then-bytes-bytes_for
+returns-then-bytes-bytes_for c =
     let b : List ℕ = c.args.bytes.now in
     let n : ℕ = c.field-2.result + 1 in
     let k : count_in count_bits b ≡ n = ap (λ (x : ℕ). x + 1) (sym c.field-2.ensures.value) in
     record {
       exact = wrong_length count_bits version b c.if-bytes-lt2.false (sym c.field.ensures.value ∙ c.if-field-ne-VERSION.false) n k
-          (λ z. c.if-bytes-bytes-for.true (z ∙ sym c.bytes-for.ensures));
+          (λ z. c.if-bytes-bytes_for.true (z ∙ sym c.bytes_for.ensures));
       back = tt;
       widths = stored_loaded;
     }
@@ -33,10 +33,10 @@ returns-then-field-ne0 c =
     let b : List ℕ = c.args.bytes.now in
     let n : ℕ = c.field-2.result + 1 in
     let k : count_in count_bits b ≡ n = ap (λ (x : ℕ). x + 1) (sym c.field-2.ensures.value) in
-    let f = filling_read count_bits b n c.field-3.result c.term-start-end.result c.field-3.ensures.value c.term-start-end.ensures in
+    let f = filling_read count_bits b n c.field-3.result c.term_start-end.result c.field-3.ensures.value c.term_start-end.ensures in
     record {
       exact = filled_wrong count_bits version b c.if-bytes-lt2.false (sym c.field.ensures.value ∙ c.if-field-ne-VERSION.false) n k
-          (c.if-bytes-bytes-for.false ∙ c.bytes-for.ensures) (λ z. c.if-field-ne0.true (f ∙ z));
+          (c.if-bytes-bytes_for.false ∙ c.bytes_for.ensures) (λ z. c.if-field-ne0.true (f ∙ z));
       back = tt;
       widths = stored_loaded;
     }
@@ -46,10 +46,10 @@ returns-then-not-ascending c =
     let b : List ℕ = c.args.bytes.now in
     let n : ℕ = c.field-2.result + 1 in
     let k : count_in count_bits b ≡ n = ap (λ (x : ℕ). x + 1) (sym c.field-2.ensures.value) in
-    let f = filling_read count_bits b n c.field-3.result c.term-start-end.result c.field-3.ensures.value c.term-start-end.ensures in
+    let f = filling_read count_bits b n c.field-3.result c.term_start-end.result c.field-3.ensures.value c.term_start-end.ensures in
     record {
       exact = not_above count_bits version b c.if-bytes-lt2.false (sym c.field.ensures.value ∙ c.if-field-ne-VERSION.false) n k
-          (c.if-bytes-bytes-for.false ∙ c.bytes-for.ensures) (sym f ∙ c.if-field-ne0.false) (sym c.if-not-ascending.ensures);
+          (c.if-bytes-bytes_for.false ∙ c.bytes_for.ensures) (sym f ∙ c.if-field-ne0.false) (sym c.if-not-ascending.ensures);
       back = tt;
       widths = stored_loaded;
     }
@@ -59,9 +59,9 @@ returns c =
     let b : List ℕ = c.args.bytes.now in
     let n : ℕ = c.field-2.result + 1 in
     let k : count_in count_bits b ≡ n = ap (λ (x : ℕ). x + 1) (sym c.field-2.ensures.value) in
-    let f = filling_read count_bits b n c.field-3.result c.term-start-end.result c.field-3.ensures.value c.term-start-end.ensures in
+    let f = filling_read count_bits b n c.field-3.result c.term_start-end.result c.field-3.ensures.value c.term_start-end.ensures in
     let e : outcome c.built.result ≡ content_of b =
     above count_bits version b c.if-bytes-lt2.false (sym c.field.ensures.value ∙ c.if-field-ne-VERSION.false) n k
-    (c.if-bytes-bytes-for.false ∙ c.bytes-for.ensures) (sym f ∙ c.if-field-ne0.false) (sym c.if-not-ascending.ensures)
+    (c.if-bytes-bytes_for.false ∙ c.bytes_for.ensures) (sym f ∙ c.if-field-ne0.false) (sym c.if-not-ascending.ensures)
     (outcome c.built.result) c.built.ensures in
-    record { exact = e; back = loaded_back c.built.result b c.type-inv.bytes e; widths = stored_loaded }
+    record { exact = e; back = loaded_back c.built.result b c.type_inv.bytes e; widths = stored_loaded }

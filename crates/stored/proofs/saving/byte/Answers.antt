@@ -5,11 +5,11 @@ use Rattle.stored.specs.Layout.{stored_bit, count_bits, version}
 use Rattle.stored.proofs.Spelling.{spelled_more, below_more}
 use Rattle.stored.proofs.saving.byte.Goals as goal
 
-pub overflow-mul-byte : goal.overflow-mul-byte
-overflow-mul-byte c = let l : c.loop-k.k ≤ 7 = omega arith in let p : 2 ^ c.loop-k.k ≤ 2 ^ 7 = pow_mono l in omega (arith, c.loop-k.invariant.1)
+pub overflow_mul-byte : goal.overflow_mul-byte
+overflow_mul-byte c = let l : c.loop-k.k ≤ 7 = omega arith in let p : 2 ^ c.loop-k.k ≤ 2 ^ 7 = pow_mono l in omega (arith, c.loop-k.invariant.1)
 
-pub overflow-add-byte : goal.overflow-add-byte
-overflow-add-byte c = let l : c.loop-k.k ≤ 7 = omega arith in let p : 2 ^ c.loop-k.k ≤ 2 ^ 7 = pow_mono l in omega (arith, c.loop-k.invariant.1)
+pub overflow_add-byte : goal.overflow_add-byte
+overflow_add-byte c = let l : c.loop-k.k ≤ 7 = omega arith in let p : 2 ^ c.loop-k.k ≤ 2 ^ 7 = pow_mono l in omega (arith, c.loop-k.invariant.1)
 
 pub loop-k-preserved : goal.loop-k-preserved
 loop-k-preserved c = (

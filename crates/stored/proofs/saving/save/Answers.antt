@@ -13,7 +13,7 @@ size_is f n m e d = e ∙ ap (bytes_for count_bits) d ∙ sym (stored_length cou
 pub returns-then-out-size : goal.returns-then-out-size
 returns-then-out-size c =
     let f : List ℕ = terms_of c.args.form.now in
-    let s = size_is f c.bytes-for-size.result c.len.result c.bytes-for-size.ensures c.len.ensures.value in
+    let s = size_is f c.bytes_for-size.result c.len.result c.bytes_for-size.ensures c.len.ensures.value in
     record { exact = (omega (arith, s, c.if-out-size.true), search rules); back = tt; widths = λ w v l f a b t x y. loaded_stored w v f l a b t x y; told = λ g. (form_same c.args.form.now g, ap bytes_of) }
 
 pub loop-i-preserved : goal.loop-i-preserved
@@ -24,10 +24,10 @@ loop-i-preserved c =
 pub returns : goal.returns
 returns c =
     let f : List ℕ = terms_of c.args.form.now in
-    let n : ℕ = c.bytes-for-size.result in
-    let s : n ≡ length (bytes_of f) = size_is f n c.len.result c.bytes-for-size.ensures c.len.ensures.value in
+    let n : ℕ = c.bytes_for-size.result in
+    let s : n ≡ length (bytes_of f) = size_is f n c.len.result c.bytes_for-size.ensures c.len.ensures.value in
     let e : c.loop-i.out ≡ bytes_of f ++ drop n c.args.out.now =
-    bytes_all f c.args.out.now c.loop-i.out c.loop-i.i n c.loop-i.invariant (omega arith) (c.bytes-for-size.ensures ∙ ap (bytes_for count_bits) c.len.ensures.value) in
+    bytes_all f c.args.out.now c.loop-i.out c.loop-i.i n c.loop-i.invariant (omega arith) (c.bytes_for-size.ensures ∙ ap (bytes_for count_bits) c.len.ensures.value) in
     record {
       exact = (s, c.if-out-size.false, e);
       back = saved_back c.args.form.now (drop n c.args.out.now) c.loop-i.out n s e;
