@@ -11,8 +11,8 @@ use Rattle.extremes.proofs.Frames.{margin_known, row_readable, row_elements, row
 use Rattle.extremes.proofs.find_extremes.Given as given
 use Rattle.extremes.proofs.find_extremes.Goals as goal
 
-pub returns-then-is-err : goal.returns-then-is-err
-returns-then-is-err g c =
+pub returns-then-is_err : goal.returns-then-is_err
+returns-then-is_err g c =
     let m = g.S.Source.meaning c.args.source.now in
     let q : Ranges m = g.met.S.Source.ranges c.args.source.now in
     let deep : pos 0 ≤ℤ m.margin = margin_known m q (λ n. let r = c.in-Ok.ensures.refused n in let z : ◌≡◌ {A = ℕ} 0 1 = cc in omega arith) in
@@ -22,8 +22,8 @@ returns-then-is-err g c =
     let signed : to_z w32 row ≡ pos row = to_z_pos w32 row (omega (arith, here, q.few_rows)) in
     let long : length c.loop-row.scratch ≡ m.width = omega (arith, c.width-width.ensures, c.loop-row.auto.scratch) in
     let readable = row_readable m q (to_z w32 row) row (length c.loop-row.scratch) w signed long c.width-width.ensures deep here in
-    let r = c.read-row.ensures.shown readable in
-    absurd (both_ways (is_err c.read-row.result) (ap is_err r) (sym c.is-err.ensures.value ∙ c.if-is-err.true))
+    let r = c.read_row.ensures.shown readable in
+    absurd (both_ways (is_err c.read_row.result) (ap is_err r) (sym c.is_err.ensures.value ∙ c.if-is_err.true))
 
 pub loop-row-preserved : goal.loop-row-preserved
 loop-row-preserved g c =
@@ -36,9 +36,9 @@ loop-row-preserved g c =
     let signed : to_z w32 row ≡ pos row = to_z_pos w32 row (omega (arith, here, q.few_rows)) in
     let long : length c.loop-row.scratch ≡ m.width = omega (arith, c.width-width.ensures, c.loop-row.auto.scratch) in
     let readable = row_readable m q (to_z w32 row) row (length c.loop-row.scratch) w signed long c.width-width.ensures deep here in
-    let out = c.read-row.new.out in
-    let filled = c.read-row.ensures.filled readable in
-    let n : length out ≡ length c.loop-row.scratch = c.read-row.auto.out in
+    let out = c.read_row.new.out in
+    let filled = c.read_row.ensures.filled readable in
+    let n : length out ≡ length c.loop-row.scratch = c.read_row.auto.out in
     let elements = row_elements m q (to_z w32 row) row (length c.loop-row.scratch) w signed long c.width-width.ensures out filled in
     let at : (k : ℕ) (d : g.row.S-Element.Denot) → k < length out → ◌≡◌ {A = g.row.S-Element.Denot} (get_or out k d) (element_in_order m (row * w + k)) = λ k d l. elements k d (omega (arith, n)) in
     let as_wide : length out ≡ w = omega (arith, n, long, c.width-width.ensures) in (
@@ -63,8 +63,8 @@ returns g c =
         omega (arith, wide),
         deep,
         record {
-          low = first_place m q row w all wide g.Element.Order.most c.loop-row.leaders.low c.place-of.result c.place-of.ensures c.loop-row.invariant.1;
-          high = first_place m q row w all wide (turned g.Element.Order.most) c.loop-row.leaders.high c.place-of-2.result c.place-of-2.ensures c.loop-row.invariant.2;
+          low = first_place m q row w all wide g.Element.Order.most c.loop-row.leaders.low c.place_of.result c.place_of.ensures c.loop-row.invariant.1;
+          high = first_place m q row w all wide (turned g.Element.Order.most) c.loop-row.leaders.high c.place_of-2.result c.place_of-2.ensures c.loop-row.invariant.2;
         },
       );
     }

@@ -6,8 +6,8 @@ use Rattle.filters.proofs.Truths.{box_length, erosion_sets}
 use Rattle.filters.proofs.Unions.{gathering_more, gathering_all}
 use Rattle.filters.proofs.basic.all_cells.Goals as goal
 
-pub overflow-add-i : goal.overflow-add-i
-overflow-add-i c = omega (arith, c.in-Some.ensures, box_length c.args.size.height c.args.size.width, few_cells c.args.size)
+pub overflow_add-i : goal.overflow_add-i
+overflow_add-i c = omega (arith, c.in-Some.ensures, box_length c.args.size.height c.args.size.width, few_cells c.args.size)
 
 pub loop-cell-preserved : goal.loop-cell-preserved
 loop-cell-preserved c =
@@ -18,10 +18,10 @@ loop-cell-preserved c =
 pub unreachable-requires : goal.unreachable-requires
 unreachable-requires c =
     let b : List ℕ = box c.args.size.height c.args.size.width in
-    let e = gathering_all c.loop-cell.set.bits b c.loop-cell.i c.loop-cell.invariant c.in-default.ensures in
+    let e = gathering_all c.loop-cell.set.bits b c.loop-cell.i c.loop-cell.invariant c.in_default.ensures in
     omega (arith, e, c.in-None.ensures, (erosion_sets c.args.size.height c.args.size.width (sides_of_lem c.args.size) (set_of b) (inl refl)).0)
 
 pub returns : goal.returns
 returns c =
     c.in-Some-new.ensures
-    ∙ gathering_all c.loop-cell.set.bits (box c.args.size.height c.args.size.width) c.loop-cell.i c.loop-cell.invariant c.in-default.ensures
+    ∙ gathering_all c.loop-cell.set.bits (box c.args.size.height c.args.size.width) c.loop-cell.i c.loop-cell.invariant c.in_default.ensures

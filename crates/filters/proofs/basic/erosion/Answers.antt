@@ -8,7 +8,7 @@ use Rattle.filters.proofs.basic.erosion.Goals as goal
 pub returns : goal.returns
 returns c =
     let e : terms_of c.single.result ≡ erosion_of c.args.size.height c.args.size.width =
-    c.single.ensures ∙ ap (λ (t : ℕ). t ∷ []) c.all-cells.ensures in
+    c.single.ensures ∙ ap (λ (t : ℕ). t ∷ []) c.all_cells.ensures in
     record {
       exact = e;
       truth = erodes c.args.size.height c.args.size.width (sides_of_lem c.args.size) (terms_of c.single.result) e;

@@ -19,20 +19,20 @@ loop-cell-init c =
     ap (enter_all (turned_of c.args.size.height c.args.size.width)) c.window-form.ensures
     ∙ dilation_start c.args.size.height c.args.size.width (sides_of_lem c.args.size)
 
-pub returns-in-err-enter : goal.returns-in-err-enter
-returns-in-err-enter c =
+pub returns-in_err-enter : goal.returns-in_err-enter
+returns-in_err-enter c =
     let b : List ℕ = box c.args.size.height c.args.size.width in
     let h : List ℕ = terms_of c.enter.new.self in
     let q = c.in-Some.ensures in
-    let p = err_from_is_err_and c.from-residual.result c.from-residual.ensures.1 in
+    let p = err_from_is_err_and c.from_residual.result c.from_residual.ensures.1 in
     rw (p.1, p.2)
     (entering_stop (dilation_of c.args.size.height c.args.size.width) (turned_of c.args.size.height c.args.size.width) c.loop-cell.i
     (terms_of c.loop-cell.form) c.loop-cell.invariant (map_below turn b c.loop-cell.i q.0)
-    c.of.result.bits (c.of.ensures ∙ ap single c.other-side.ensures ∙ map_at turn b c.loop-cell.i c.in-Some.cell.number q.0 q.1)
-    (told c.enter.result h) c.enter.ensures.exact (fault_number c.in-err-enter.field-0.0) (ap (λ r. told r h) c.in-err-enter.was))
+    c.of.result.bits (c.of.ensures ∙ ap single c.other_side.ensures ∙ map_at turn b c.loop-cell.i c.in-Some.cell.number q.0 q.1)
+    (told c.enter.result h) c.enter.ensures.exact (fault_number c.in_err-enter.field-0.0) (ap (λ r. told r h) c.in_err-enter.was))
 
-pub overflow-add-i : goal.overflow-add-i
-overflow-add-i c = omega (arith, c.in-Some.ensures, box_length c.args.size.height c.args.size.width, few_cells c.args.size)
+pub overflow_add-i : goal.overflow_add-i
+overflow_add-i c = omega (arith, c.in-Some.ensures, box_length c.args.size.height c.args.size.width, few_cells c.args.size)
 
 pub loop-cell-preserved : goal.loop-cell-preserved
 loop-cell-preserved c =
@@ -41,11 +41,11 @@ loop-cell-preserved c =
     let q = c.in-Some.ensures in
     entering_more (dilation_of c.args.size.height c.args.size.width) (turned_of c.args.size.height c.args.size.width) c.loop-cell.i
     (terms_of c.loop-cell.form) c.loop-cell.invariant (map_below turn b c.loop-cell.i q.0)
-    c.of.result.bits (c.of.ensures ∙ ap single c.other-side.ensures ∙ map_at turn b c.loop-cell.i c.in-Some.cell.number q.0 q.1)
-    (told c.enter.result h) c.enter.ensures.exact h (ap (λ r. told r h) c.in-ok-enter.was)
+    c.of.result.bits (c.of.ensures ∙ ap single c.other_side.ensures ∙ map_at turn b c.loop-cell.i c.in-Some.cell.number q.0 q.1)
+    (told c.enter.result h) c.enter.ensures.exact h (ap (λ r. told r h) c.in_ok-enter.was)
 
 pub returns : goal.returns
 returns c =
     entering_all (dilation_of c.args.size.height c.args.size.width) (turned_of c.args.size.height c.args.size.width) c.loop-cell.i
     (terms_of c.loop-cell.form) c.loop-cell.invariant
-    (map_above turn (box c.args.size.height c.args.size.width) c.loop-cell.i c.in-default.ensures)
+    (map_above turn (box c.args.size.height c.args.size.width) c.loop-cell.i c.in_default.ensures)

@@ -8,8 +8,8 @@ use Rattle.filters.proofs.Truths.{box_length}
 use Rattle.filters.proofs.Weighing.{once_more}
 use Rattle.filters.proofs.ranks.each_once.Goals as goal
 
-pub overflow-add-i : goal.overflow-add-i
-overflow-add-i c = omega (arith, c.in-Some.ensures, box_length c.args.size.height c.args.size.width, c.requires)
+pub overflow_add-i : goal.overflow_add-i
+overflow_add-i c = omega (arith, c.in-Some.ensures, box_length c.args.size.height c.args.size.width, c.requires)
 
 pub loop-cell-preserved : goal.loop-cell-preserved
 loop-cell-preserved c =
@@ -21,4 +21,4 @@ loop-cell-preserved c =
 pub returns : goal.returns
 returns c =
     c.loop-cell.invariant
-    ∙ ap once (take_all c.loop-cell.i (box c.args.size.height c.args.size.width) c.in-default.ensures)
+    ∙ ap once (take_all c.loop-cell.i (box c.args.size.height c.args.size.width) c.in_default.ensures)

@@ -9,6 +9,6 @@ pub returns : goal.returns
 returns c =
     let e : Ranked c.weighted.result c.args.size.height c.args.size.width c.args.k =
     subst (λ (k : ℕ). Ranked c.weighted.result c.args.size.height c.args.size.width k) c.from-2.ensures
-    (ranked c.weighted.result c.args.size.height c.args.size.width c.from-2.result (listed c.each-once.result) c.each-once.ensures
+    (ranked c.weighted.result c.args.size.height c.args.size.width c.from-2.result (listed c.each_once.result) c.each_once.ensures
     (omega arith) c.weighted.ensures.exact) in
     record { exact = e; truth = ranked_truth c.weighted.result c.args.size.height c.args.size.width c.args.k (sides_of_lem c.args.size) e }

@@ -9,7 +9,7 @@ loop-d-preserved c =
     let e = decimal_more c.args.digits.now c.loop-d.d-index c.loop-d-test.true in
     let i = c.loop-d.invariant.0 in (
       omega (arith, e, i),
-      decimal_small c.loop-d.d-index c.loop-d.sum _ c.from.result c.loop-d.invariant.1 (c.type-inv.digits c.loop-d.d-index).fits (omega arith),
+      decimal_small c.loop-d.d-index c.loop-d.sum _ c.from.result c.loop-d.invariant.1 (c.type_inv.digits c.loop-d.d-index).fits (omega arith),
     )
 
 pub returns : goal.returns

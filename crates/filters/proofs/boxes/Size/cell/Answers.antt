@@ -9,18 +9,18 @@ use Rattle.filters.proofs.boxes.Size.cell.Goals as goal
 pub returns-then-index-count : goal.returns-then-index-count
 returns-then-index-count c = omega (arith, box_length c.args.self.height c.args.self.width)
 
-pub overflow-add-row : goal.overflow-add-row
-overflow-add-row c =
+pub overflow_add-row : goal.overflow_add-row
+overflow_add-row c =
     let l : c.args.index < c.args.self.height * c.args.self.width = omega arith in
     omega (arith, row_below c.args.self.height c.args.self.width (sides_of_lem c.args.self) c.args.index l)
 
-pub overflow-mul-row : goal.overflow-mul-row
-overflow-mul-row c =
+pub overflow_mul-row : goal.overflow_mul-row
+overflow_mul-row c =
     let l : c.args.index < c.args.self.height * c.args.self.width = omega arith in
     omega (arith, number_below c.args.self.height c.args.self.width (sides_of_lem c.args.self) c.args.index l)
 
-pub overflow-add-row-2 : goal.overflow-add-row-2
-overflow-add-row-2 c =
+pub overflow_add-row-2 : goal.overflow_add-row-2
+overflow_add-row-2 c =
     let l : c.args.index < c.args.self.height * c.args.self.width = omega arith in
     omega (arith, number_below c.args.self.height c.args.self.width (sides_of_lem c.args.self) c.args.index l)
 

@@ -4,15 +4,15 @@ use Rattle.std.proofs.lemmas.Nat.{one_shl}
 use Rattle.values.proofs.Walks.{Top, top, taken_of}
 use Rattle.values.proofs.windows.evaluation.pop.Goals as goal
 
-pub overflow-sub-cell : goal.overflow-sub-cell
-overflow-sub-cell c = (top c.args.rest.now c.requires.0 c.requires.1).some
+pub overflow_sub-cell : goal.overflow_sub-cell
+overflow_sub-cell c = (top c.args.rest.now c.requires.0 c.requires.1).some
 
 -- `1 << (62 - cell)` is the set of the cell
 mask : (n : ℕ) → (1 * 2 ^ (62 - (n - 1))) % 2 ^ 64 ≡ 2 ^ (62 - (n - 1))
 mask n = one_shl (62 - (n - 1)) 64 (omega arith)
 
-pub overflow-sub-rest-2 : goal.overflow-sub-rest-2
-overflow-sub-rest-2 c =
+pub overflow_sub-rest-2 : goal.overflow_sub-rest-2
+overflow_sub-rest-2 c =
     let s : ℕ = c.args.rest.now in
     subst (λ (y : ℕ). y ≤ s) (sym (mask (count_leading_zeros 64 s))) (top s c.requires.0 c.requires.1).low
 

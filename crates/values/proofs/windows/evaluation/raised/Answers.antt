@@ -7,7 +7,7 @@ use Rattle.values.proofs.Orders.{ordered}
 use Rattle.values.proofs.Levels.{Le}
 use Rattle.values.proofs.Walks.{Walked, walk_first, walk_more, walk_stop}
 use Rattle.values.proofs.windows.evaluation.raised.Goals as goal
-use Rattle.values.proofs.windows.evaluation.raised.Goals.{then-loop-rest-test+else-not-at-most, else-loop-rest-test}
+use Rattle.values.proofs.windows.evaluation.raised.Goals.{then-loop-rest-test+else-not-at_most, else-loop-rest-test}
 
 test : (a b : Bool) → a ≡ b → a ≡ true → b ≡ true
 test a b e h = sym e ∙ h
@@ -40,7 +40,7 @@ returns g c = λ d.
     (walk_first g.E.Order.most o (element_at c.args.window.now d) c.args.term.bits n c.pop.new.rest
     (get_or c.args.window.now.all n z) p (get_or_default c.args.window.now.all n z d l)) in
     let stop : (c.loop-rest.rest ≡ 0) ⊎ Le g.E.Order.most c.loop-rest.low c.args.high = elim c.loop-rest-test.branch [
-      | then-loop-rest-test+else-not-at-most v ↦ inr (test v.at_most.result (g.E.Order.most c.loop-rest.low c.args.high) v.at_most.ensures v.if-not-at-most.false)
+      | then-loop-rest-test+else-not-at_most v ↦ inr (test v.at_most.result (g.E.Order.most c.loop-rest.low c.args.high) v.at_most.ensures v.if-not-at_most.false)
       | else-loop-rest-test v ↦ inl v.loop-rest-test.false
     ] in
     walk_stop g.E.Order.most o (element_at c.args.window.now d) c.args.term.bits c.args.term.some c.args.term.fits

@@ -38,7 +38,7 @@ returns g c =
     let o : Ordered g.E.Order.most = ordered g.E.Order.most g.met.E.Order.reflexive g.met.E.Order.total g.met.E.Order.antisymmetric g.met.E.Order.transitive in
     let f : List ℕ = terms_of c.args.form.now in
     let w : Whole f = whole_form c.args.form.now in
-    let e : c.loop-term.i ≡ length f = omega (arith, c.loop-term.invariant.1, c.in-default.ensures) in
+    let e : c.loop-term.i ≡ length f = omega (arith, c.loop-term.invariant.1, c.in_default.ensures) in
     let v : (d : _) → c.loop-term.high ≡ value g.E.Order.most (element_at c.args.window.now d) f =
     λ d. high_all g.E.Order.most (element_at c.args.window.now d) f c.loop-term.i c.loop-term.high e (c.loop-term.invariant.2 d) in
     record {

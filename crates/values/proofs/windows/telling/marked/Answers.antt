@@ -28,4 +28,4 @@ loop-cell-preserved g c =
 
 pub returns : goal.returns
 returns g c = λ d k l.
-    (c.loop-cell.invariant.1 c.args.low d c.filled-window.ensures).before k (omega (arith, c.in-default.ensures)) l
+    (c.loop-cell.invariant.1 c.args.low d c.filled-window.ensures).before k (omega (arith, c.in_default.ensures)) l

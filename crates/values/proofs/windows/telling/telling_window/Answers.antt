@@ -30,10 +30,10 @@ returns g c =
       marks = mark_value g.E.Order.most o;
     }
 
-pub returns-in-default : goal.returns-in-default
-returns-in-default g c =
+pub returns-in_default : goal.returns-in_default
+returns-in_default g c =
     let o : Ordered g.E.Order.most = ordered g.E.Order.most g.met.E.Order.reflexive g.met.E.Order.total g.met.E.Order.antisymmetric g.met.E.Order.transitive in
-    let q = c.in-default.ensures in
+    let q = c.in_default.ensures in
     record {
       exact = none_telling (telling (terms_of c.args.f.now) (terms_of c.args.g.now)) q.exact;
       terms = q.truth;
