@@ -43,8 +43,8 @@ loop-row-preserved g c =
     let at : (k : ℕ) (d : g.row.S-Element.Denot) → k < length out → ◌≡◌ {A = g.row.S-Element.Denot} (get_or out k d) (element_in_order m (row * w + k)) = λ k d l. elements k d (omega (arith, n)) in
     let as_wide : length out ≡ w = omega (arith, n, long, c.width-width.ensures) in (
       (λ _. row_holds m q (to_z w32 row) row (length c.loop-row.scratch) w signed long c.width-width.ensures out filled),
-      leads_next g.Element.Order.most (element_in_order m) row w (length out) c.scan-leaders.result.low as_wide (c.scan-leaders.ensures.low (element_in_order m) at c.loop-row.invariant.1),
-      leads_next (turned g.Element.Order.most) (element_in_order m) row w (length out) c.scan-leaders.result.high as_wide (c.scan-leaders.ensures.high (element_in_order m) at c.loop-row.invariant.2),
+      leads_next g.S.Element.Order.most (element_in_order m) row w (length out) c.scan-leaders.result.low as_wide (c.scan-leaders.ensures.low (element_in_order m) at c.loop-row.invariant.1),
+      leads_next (turned g.S.Element.Order.most) (element_in_order m) row w (length out) c.scan-leaders.result.high as_wide (c.scan-leaders.ensures.high (element_in_order m) at c.loop-row.invariant.2),
     )
 
 pub returns : goal.returns
@@ -63,8 +63,8 @@ returns g c =
         omega (arith, wide),
         deep,
         record {
-          low = first_place m q row w all wide g.Element.Order.most c.loop-row.leaders.low c.place_of.result c.place_of.ensures c.loop-row.invariant.1;
-          high = first_place m q row w all wide (turned g.Element.Order.most) c.loop-row.leaders.high c.place_of-2.result c.place_of-2.ensures c.loop-row.invariant.2;
+          low = first_place m q row w all wide g.S.Element.Order.most c.loop-row.leaders.low c.place_of.result c.place_of.ensures c.loop-row.invariant.1;
+          high = first_place m q row w all wide (turned g.S.Element.Order.most) c.loop-row.leaders.high c.place_of-2.result c.place_of-2.ensures c.loop-row.invariant.2;
         },
       );
     }
