@@ -5,4 +5,4 @@ use Rattle.expressions.proofs.leaves.over.Goals as goal
 
 pub returns-in-Some : goal.returns-in-Some
 unfolding form_of
-returns-in-Some c = (over c.args.shape c.args.place c.in-ok-size.size.height c.in-ok-size.size.width, search rules, search rules)
+returns-in-Some c = (over c.args.shape c.args.place c.in_ok-size.size.height c.in_ok-size.size.width, search rules, search rules)

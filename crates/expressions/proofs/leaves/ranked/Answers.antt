@@ -5,4 +5,4 @@ use Rattle.expressions.proofs.leaves.ranked.Goals as goal
 
 pub returns-in-Some : goal.returns-in-Some
 unfolding form_of
-returns-in-Some c = (rank c.args.place c.in-ok-size.size.height c.in-ok-size.size.width c.in-ok-k.k, search rules, search rules)
+returns-in-Some c = (rank c.args.place c.in_ok-size.size.height c.in_ok-size.size.width c.in_ok-k.k, search rules, search rules)

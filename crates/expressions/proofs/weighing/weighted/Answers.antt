@@ -14,11 +14,11 @@ pub returns-in-Some-weighted : goal.returns-in-Some-weighted
 unfolding form_of
 returns-in-Some-weighted c =
     let text : List ℕ = c.args.text.now in
-    let vs : Toks = tokens_at text c.in-ok-k.at in
-    let rest : Toks = tokens_at text c.in-ok-weights.at in
+    let vs : Toks = tokens_at text c.in_ok-k.at in
+    let rest : Toks = tokens_at text c.in_ok-weights.at in
     let f = c.in-Some-weighted.ensures.exact in
-    let h = subst (λ (w : Option Weights). (m : ℕ) → length vs ≤ m → (xs : List Weighed) × (weights_of m vs ≡ read xs rest) × Lists w xs) c.in-Some.is c.in-ok-weights.ensures in (
-      weight c.args.place c.in-ok-k.k (listed c.in-Some.weights),
-      weighted_ok c.args.place c.in-ok-k.k (tokens_at text c.args.at) (tokens_at text c.in-ok-at.at) vs c.in-ok-at.ensures c.in-ok-k.ensures.value c.in-Some.weights rest h f.1,
+    let h = subst (λ (w : Option Weights). (m : ℕ) → length vs ≤ m → (xs : List Weighed) × (weights_of m vs ≡ read xs rest) × Lists w xs) c.in-Some.is c.in_ok-weights.ensures in (
+      weight c.args.place c.in_ok-k.k (listed c.in-Some.weights),
+      weighted_ok c.args.place c.in_ok-k.k (tokens_at text c.args.at) (tokens_at text c.in_ok-at.at) vs c.in_ok-at.ensures c.in_ok-k.ensures.value c.in-Some.weights rest h f.1,
       ap (placed c.args.place) f.2,
     )

@@ -2,21 +2,21 @@ use Rattle.std.proofs.Common.{rules}
 use Rattle.grammar.specs.Reading.{cell_of}
 use Rattle.grammar.proofs.parts.cell.Goals as goal
 
-pub returns-in-err-row : goal.returns-in-err-row
+pub returns-in_err-row : goal.returns-in_err-row
 unfolding cell_of
-returns-in-err-row c = search rules
+returns-in_err-row c = search rules
 
-pub returns-in-err-at : goal.returns-in-err-at
+pub returns-in_err-at : goal.returns-in_err-at
 unfolding cell_of
-returns-in-err-at c = search rules
+returns-in_err-at c = search rules
 
-pub returns-in-err-column : goal.returns-in-err-column
+pub returns-in_err-column : goal.returns-in_err-column
 unfolding cell_of
-returns-in-err-column c = search rules
+returns-in_err-column c = search rules
 
-pub returns-in-err-at-2 : goal.returns-in-err-at-2
+pub returns-in_err-at-2 : goal.returns-in_err-at-2
 unfolding cell_of
-returns-in-err-at-2 c = search rules
+returns-in_err-at-2 c = search rules
 
 pub returns : goal.returns
 unfolding cell_of
