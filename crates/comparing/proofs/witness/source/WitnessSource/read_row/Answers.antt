@@ -4,7 +4,7 @@ use Rattle.comparing.proofs.witness.source.WitnessSource.read_row.Goals as goal
 
 pub returns : goal.returns
 returns g c =
-    let e = c.read-row.ensures in
-    let (s, f, r) = row_answer (frame_of g.K.Order.most c.args.self.now) c.read-row.result c.args.out.now c.read-row.new.out
+    let e = c.read_row.ensures in
+    let (s, f, r) = row_answer (frame_of g.K.Order.most c.args.self.now) c.read_row.result c.args.out.now c.read_row.new.out
     c.args.row c.args.first c.ranges.row c.ranges.first (e.shown, e.filled, e.refused) in
     record { shown = s; filled = f; refused = r }
