@@ -3,6 +3,7 @@
 
 use anyhow::anyhow;
 use std::env;
+use std::process::ExitCode;
 
 mod compile;
 mod file;
@@ -64,10 +65,12 @@ fn run(rt: &HostRuntime) -> anyhow::Result<()> {
     }
 }
 
-fn main(rt: HostRuntime) -> anyhow::Result<()> {
-    let done = run(&rt);
-    if let Err(e) = &done {
-        let _ = eprintln!(rt; "polwenog: {e}");
+fn main(rt: HostRuntime) -> ExitCode {
+    match run(&rt) {
+        Ok(()) => ExitCode::SUCCESS,
+        Err(e) => {
+            let _ = eprintln!(rt; "polwenog: {e}");
+            ExitCode::FAILURE
+        }
     }
-    done
 }

@@ -21,10 +21,10 @@ const ASKED: &str = "same: give two expressions and perhaps, behind them, --witn
 // Compares two texts; a window that tells them apart is also written to the file, if one is named.
 pub(crate) fn same(rt: &HostRuntime, mut words: Args) -> anyhow::Result<()> {
     let Some(left) = words.next() else {
-        return Err(ASKED.into());
+        return Err(anyhow!(ASKED));
     };
     let Some(right) = words.next() else {
-        return Err(ASKED.into());
+        return Err(anyhow!(ASKED));
     };
     let file = witness_file(words)?;
     match compare(left.as_bytes(), right.as_bytes(), LOW, HIGH) {
@@ -42,10 +42,10 @@ fn witness_file(mut words: Args) -> anyhow::Result<Option<String>> {
         return Ok(None);
     };
     let Some(path) = words.next() else {
-        return Err(ASKED.into());
+        return Err(anyhow!(ASKED));
     };
     if option.as_str() != "--witness" || words.next().is_some() {
-        return Err(ASKED.into());
+        return Err(anyhow!(ASKED));
     }
     Ok(Some(path))
 }
