@@ -1,9 +1,8 @@
 -- One element more.
-use Rattle.std.proofs.Common.{◌≡◌, ℕ, ◌+◌, ◌<◌, Bool, true, false, cond, ◌||◌, ◌⊎◌, sym, refl, ap, ◌∙◌, subst, inl, inr, arith}
+use Rattle.std.proofs.Common.{◌≡◌, ℕ, ◌+◌, Bool, true, false, cond, ◌||◌, sym, refl, ap, ◌∙◌, subst, inl, inr, arith}
 use Rattle.std.proofs.lemmas.Bool.{cases_order, cases_Bool, or_cases, both_ways, cond_both}
 use Rattle.extremes.specs.declared.lead.Lead.{Lead}
 use Rattle.extremes.specs.Leads.{Leads}
-use Rattle.extremes.specs.First.{turned}
 
 module _ {E : Type 0} (most : E → E → Bool)
     (total : (a b : E) → (most a b || most b a) ≡ true)

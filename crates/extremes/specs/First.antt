@@ -1,5 +1,5 @@
 -- The lowest and the highest element of a frame, with the first place of each in reading order.
-use Rattle.std.specs.Prelude.{◌≡◌, ℕ, ◌-◌, ◌<◌, Bool, true, false, ◌⊎◌, List, ℤ, pos, ◌≤ℤ◌, Some, None, Option}
+use Rattle.std.specs.Prelude.{◌≡◌, ℕ, ◌-◌, ◌<◌, Bool, true, false, ◌⊎◌, List, pos, ◌≤ℤ◌, Some, None, Option}
 use Rattle.sources.specs.Meaning.{Meaning, RowHolds}
 use Rattle.extremes.specs.declared.Found.{Found}
 use Rattle.extremes.specs.declared.Extremes.{Extremes}

@@ -1,8 +1,8 @@
 -- The bits of sets of cells, and the order that `inside` is.
-use Rattle.std.proofs.Common.{◌≡◌, ℕ, zero, suc, ◌+◌, ◌-◌, ◌*◌, ◌/◌, ◌%◌, ◌^◌, ◌<◌, ◌≤◌, min, max, ◌⊎◌, sym, refl, ap, ◌∙◌, subst, ap₂, inl, inr, mod-lt, one-mul, pow-suc, div-add-mod', arith}
+use Rattle.std.proofs.Common.{◌≡◌, ℕ, zero, suc, ◌+◌, ◌-◌, ◌/◌, ◌%◌, ◌^◌, ◌<◌, ◌≤◌, min, max, ◌⊎◌, sym, refl, ap, ◌∙◌, subst, inl, inr, one-mul, pow-suc, arith}
 use native.Mathlib.Nat.{div-eq_of_lt}
 use lib.Bits.{bit_and, bit_or, and_step, or_step, and_self, and_comm, shifted_even, or_lt, or_add_and}
-use Rattle.std.proofs.lemmas.Nat.{and_shr, or_shr, and_le_l, and_le_r, shr-shr, shl-shr, mod_below, pow-add, pow_below, pow_pos}
+use Rattle.std.proofs.lemmas.Nat.{and_shr, or_shr, and_le_l, and_le_r, shr-shr, shl-shr, pow-add, pow_below, pow_pos}
 use Rattle.std.proofs.lemmas.Bool.{cases_order}
 use Rattle.forms.specs.Sets.{bit, Has, Sub, CellByCell, single}
 

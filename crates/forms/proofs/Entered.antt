@@ -1,12 +1,12 @@
 -- Entering a term: its members, its truth, and that it leaves the minimal sets.
-use Rattle.std.proofs.Common.{◌≡◌, ℕ, zero, suc, ◌-◌, ◌^◌, ◌<◌, ◌≤◌, Bool, true, false, cond, ◌||◌, eqb, ltb, leb, ◌⊎◌, List, [], ◌∷◌, ◌++◌, length, get_or, sym, refl, ap, ◌∙◌, subst, ap₂, inl, inr, arith}
+use Rattle.std.proofs.Common.{◌≡◌, ℕ, zero, suc, ◌-◌, ◌^◌, ◌<◌, ◌≤◌, Bool, true, false, cond, ◌||◌, ltb, leb, ◌⊎◌, List, [], ◌∷◌, ◌++◌, length, get_or, sym, refl, ap, ◌∙◌, subst, ap₂, inl, inr, arith}
 use mathlib.Core.Logic.{∥∥₁_elim}
-use mathlib.Core.HLevel.{Π_prop, ×_prop, ⊥_prop}
+use mathlib.Core.HLevel.{Π_prop, ×_prop}
 use native.Mathlib.Bridge.{le_prop}
 use native.Mathlib.Nat.{ℕ_set}
 use lib.Bits.{bit_and}
-use Rattle.std.proofs.lemmas.Bool.{cond-false, cases_eq, eqb-true, eqb-false, eq-eqb, ne_eqb, or_cases, or_parts, ltb-true, ltb-false, cond-true, le-leb, lt-leb, le-ltb}
-use Rattle.forms.specs.Sets.{Has, Sub, sub}
+use Rattle.std.proofs.lemmas.Bool.{cond-false, cases_eq, eqb-true, eqb-false, ne_eqb, or_cases, or_parts, ltb-true, ltb-false, cond-true, le-leb, lt-leb, le-ltb}
+use Rattle.forms.specs.Sets.{Sub, sub}
 use Rattle.forms.specs.Terms.{most_terms, In, True, Inside, TrueOn, Ascending, Apart, Terms}
 use Rattle.forms.specs.Entering.{made, declined, bounded, covers, without, put, enter, Minimal}
 use Rattle.forms.proofs.Bits.{sub_refl, sub_trans, sub_anti, sub_le, sub_bits}

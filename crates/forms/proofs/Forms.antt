@@ -1,10 +1,8 @@
 -- Ascending terms none of which is inside another: the same truth makes them the same.
-use Rattle.std.proofs.Common.{◌≡◌, ℕ, zero, suc, ◌^◌, ◌<◌, ◌≤◌, Bool, true, false, cond, ◌||◌, ◌⊎◌, List, [], ◌∷◌, sym, refl, ap, ◌∙◌, subst, ap₂, inl, inr, arith}
-use lib.Bits.{bit_and}
-use Rattle.std.proofs.lemmas.Bool.{cases_eq}
-use Rattle.forms.specs.Sets.{Sub, sub}
+use Rattle.std.proofs.Common.{◌≡◌, ℕ, ◌<◌, List, [], ◌∷◌, sym, refl, ◌∙◌, subst, ap₂, inl, inr, arith}
+use Rattle.forms.specs.Sets.{Sub}
 use Rattle.forms.specs.Terms.{In, True, Ascending, Apart, Terms}
-use Rattle.forms.specs.Truth.{SameTruth, OnlyFirst, Differ}
+use Rattle.forms.specs.Truth.{SameTruth}
 use Rattle.forms.proofs.Bits.{sub_refl, sub_trans, sub_anti, sub_le}
 
 -- strictly ascending, and no term inside a later one (a later term, being greater, is never inside an earlier one)

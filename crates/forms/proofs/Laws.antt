@@ -1,12 +1,12 @@
 -- What tells two forms apart, and that a form has no term and no cell too many.
-use Rattle.std.proofs.Common.{◌≡◌, ℕ, ◌+◌, ◌^◌, ◌<◌, ◌≤◌, Bool, true, false, cond, eqb, ◌⊎◌, List, [], ◌∷◌, ◌++◌, length, get_or, take, drop, sym, refl, ap, ◌∙◌, subst, inl, inr, arith}
+use Rattle.std.proofs.Common.{◌≡◌, ℕ, ◌+◌, ◌<◌, ◌≤◌, Bool, true, false, cond, eqb, ◌⊎◌, List, [], ◌∷◌, ◌++◌, length, get_or, take, drop, sym, refl, ap, ◌∙◌, subst, inl, inr, arith}
 use Rattle.std.proofs.lemmas.List.{at_drop_more, at_drop_all}
 use Rattle.std.proofs.lemmas.Bool.{eqb-true, eqb-false, cases_eq, cond-true, cond-false}
 use Rattle.forms.specs.Sets.{Sub}
-use Rattle.forms.specs.Terms.{In, True, Ascending, Apart, Terms}
+use Rattle.forms.specs.Terms.{In, True, Apart, Terms}
 use Rattle.forms.specs.Entering.{covers}
 use Rattle.forms.specs.Truth.{SameTruth, OnlyFirst, Differ, outside, telling, replaced, dropped, Irredundant, OnlyOne}
-use Rattle.forms.proofs.Bits.{sub_refl, sub_trans, sub_anti, sub_le}
+use Rattle.forms.proofs.Bits.{sub_trans, sub_anti, sub_le}
 use Rattle.forms.proofs.Forms.{Sound, sound, agree, self_true, unique}
 use Rattle.forms.proofs.Entered.{covers_true, covers_false}
 

@@ -1,11 +1,11 @@
 -- The list of a set's cells, and the set of a list's cells.
-use Rattle.std.proofs.Common.{◌≡◌, ℕ, zero, suc, ◌+◌, ◌-◌, ◌/◌, ◌%◌, ◌^◌, ◌<◌, ◌≤◌, Bool, true, false, ◌&&◌, eqb, ◌⊎◌, List, [], ◌∷◌, map, Decides, sym, refl, ap, ◌∙◌, subst, inl, inr, arith}
+use Rattle.std.proofs.Common.{◌≡◌, ℕ, zero, suc, ◌+◌, ◌-◌, ◌^◌, ◌<◌, ◌≤◌, Bool, true, false, eqb, ◌⊎◌, List, [], ◌∷◌, Decides, sym, refl, ap, ◌∙◌, subst, inl, inr, arith}
 use lib.Bits.{bit_or}
 use Rattle.std.proofs.lemmas.Nat.{shr_le}
 use Rattle.std.proofs.lemmas.Bool.{eqb-true, eqb-false, cases_order, and_parts, and_from}
 use Rattle.forms.specs.Sets.{bit, Has, single, only_if, cells_below, cells, set_of, every}
 use Rattle.forms.specs.Terms.{In, Terms, Uses, used_from, used}
-use Rattle.forms.proofs.Bits.{ext, bit_lt, has_or, has_single, single_has, single_small, or_small, or_some}
+use Rattle.forms.proofs.Bits.{ext, has_or, has_single, single_has, single_small, or_small, or_some}
 
 -- the list holds just the cells
 in_below : (n t c : ℕ) → n ≤ 63 → In c (cells_below n t) → (c < 63) × Has t c

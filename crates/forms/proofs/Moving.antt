@@ -1,13 +1,11 @@
 -- Terms moved to a cell.
-use Rattle.std.proofs.Common.{◌≡◌, ℕ, zero, suc, ◌+◌, ◌-◌, ◌*◌, ◌/◌, ◌%◌, ◌^◌, ◌<◌, ◌≤◌, Bool, true, false, cond, ◌⊎◌, List, [], ◌∷◌, ◌++◌, map, ℤ, ◌+ℤ◌, sym, refl, ap, ◌∙◌, subst, ap₂, inl, inr, mul_assoc, mul_comm, zero-mul, arith, pow_mono}
-use lib.Bits.{bit_and}
+use Rattle.std.proofs.Common.{◌≡◌, ℕ, zero, suc, ◌+◌, ◌-◌, ◌*◌, ◌/◌, ◌%◌, ◌^◌, ◌<◌, ◌≤◌, true, ◌⊎◌, List, [], ◌∷◌, map, ℤ, ◌+ℤ◌, sym, refl, ap, ◌∙◌, subst, ap₂, inl, inr, mul_assoc, mul_comm, zero-mul, arith, pow_mono}
 use Rattle.std.proofs.lemmas.Nat.{pow_pos, pow-add, shl-shr, shr-shr, shr_le, shr_split, mod-pow-add, mod_below, shl_below, shr_below, mul-le}
 use Rattle.std.proofs.lemmas.Bool.{cases_order}
 use lib.IntN.{+ℤ_assoc}
-use Rattle.std.proofs.lemmas.Int.{ints}
 use Rattle.forms.specs.Window.{row_of, column_of, stays, added}
 use Rattle.forms.specs.Sets.{bit, Has, Sub, cells, set_of, movable, moved}
-use Rattle.forms.specs.Terms.{In, Inside, TrueOn, Ascending, Apart, Terms, Uses, used}
+use Rattle.forms.specs.Terms.{In, Inside, Terms, Uses, used}
 use Rattle.forms.specs.Places.{TrueAt}
 use Rattle.forms.proofs.Bits.{bit_lt, ext, bridge, sub_bits, sub_anti, lt_two_pow}
 use Rattle.forms.proofs.Forms.{Sound}

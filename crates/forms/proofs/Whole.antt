@@ -1,5 +1,5 @@
 -- What holds of the terms of every form.
-use Rattle.std.proofs.Common.{◌≡◌, ℕ, ◌^◌, ◌<◌, ◌≤◌, List, [], length, get_or, sym, refl, ap, ◌∙◌, subst, arith}
+use Rattle.std.proofs.Common.{◌≡◌, ℕ, ◌^◌, ◌<◌, ◌≤◌, length, get_or, subst, arith}
 use Rattle.std.proofs.lemmas.List.{length-take-le, get_or-take}
 use Rattle.forms.specs.declared.tables.Form.{Form}
 use Rattle.forms.specs.Terms.{most_terms, In, Terms, Ascending, Apart}

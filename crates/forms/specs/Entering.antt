@@ -1,5 +1,5 @@
 -- Entering a term: what is left are the minimal sets among the terms before and the new one.
-use Rattle.std.specs.Prelude.{◌≡◌, ℕ, Bool, true, false, cond, ◌||◌, List, [], ◌∷◌, length, ◌==◌, nat_le, nat_lt}
+use Rattle.std.specs.Prelude.{◌≡◌, ℕ, Bool, false, cond, ◌||◌, List, [], ◌∷◌, length, ◌==◌, nat_le, nat_lt}
 use Rattle.forms.specs.Sets.{Sub, sub}
 use Rattle.forms.specs.Terms.{most_terms, In, Ascending}
 

@@ -1,9 +1,8 @@
 -- Samples by their place in the bytes of an image.
-use Rattle.std.proofs.Common.{◌≡◌, ℕ, ◌+◌, ◌-◌, ◌*◌, ◌<◌, ◌≤◌, Bool, List, length, take, drop, sym, refl, ap, ◌∙◌, subst, mul-le-mul_right, suc-mul, arith}
+use Rattle.std.proofs.Common.{◌≡◌, ℕ, ◌+◌, ◌-◌, ◌*◌, ◌<◌, ◌≤◌, Bool, List, length, take, drop, sym, ap, ◌∙◌, subst, mul-le-mul_right, suc-mul, arith}
 use Rattle.std.proofs.lemmas.List.{take_rest, length-drop}
-use Rattle.elements.specs.declared.pixel.Pixel.{Pixel}
 use Rattle.images.specs.declared.header.Layout.{Layout}
-use Rattle.images.specs.Samples.{wide, sample_bytes, sample_at, pixel}
+use Rattle.images.specs.Samples.{wide, sample_bytes, sample_at}
 use Rattle.images.specs.Fits.{raster_length}
 
 -- a place within the sides is a sample within the raster

@@ -1,12 +1,12 @@
 -- The survey of an image says which bytes are one, and which test declines others.
-use Rattle.std.proofs.Common.{◌≡◌, ℕ, zero, suc, ◌+◌, ◌-◌, ◌*◌, ◌<◌, ◌≤◌, max, Bool, true, false, cond, eqb, leb, ◌⊎◌, List, length, drop, Some, None, Ok, Err, Option, Result, sym, refl, ap, ◌∙◌, subst, inl, inr, arith}
+use Rattle.std.proofs.Common.{◌≡◌, ℕ, zero, suc, ◌-◌, ◌*◌, ◌<◌, ◌≤◌, Bool, true, false, eqb, leb, List, length, drop, Some, None, Ok, Err, Option, Result, sym, refl, ap, ◌∙◌, subst, inl, inr, arith}
 use Rattle.std.proofs.lemmas.List.{length-drop}
 use Rattle.std.proofs.lemmas.Bool.{cond-true, cond-false, cases_Bool, cases_order, cases_lt, eqb-true, eqb-false, eq-eqb, ne_eqb, leb-true, leb-false, both_ways, cond_both}
 use Rattle.images.specs.declared.header.Header.{Header}
 use Rattle.images.specs.declared.header.Layout.{Layout}
 use Rattle.images.specs.declared.refusal.ImageRefusal.{ImageRefusal}
 use Rattle.images.specs.declared.refusal.ImageRefusal.TheVariants.{NotPgm, MalformedHeader, OutOfRange, WrongLength, AboveMaximum}
-use Rattle.images.specs.Header.{Magic, Headed}
+use Rattle.images.specs.Header.{Headed}
 use Rattle.images.specs.Samples.{wide, sample_at}
 use Rattle.images.specs.Fits.{InRange, raster_length}
 use Rattle.images.specs.Pgm.{sample_of, Pgm, Declines}

@@ -1,5 +1,5 @@
 -- The samples of a raster, and what an image shows.
-use Rattle.std.specs.Prelude.{◌≡◌, ℕ, ◌+◌, ◌*◌, Bool, true, false, List, nat_le, slice_index}
+use Rattle.std.specs.Prelude.{ℕ, ◌+◌, ◌*◌, Bool, true, false, List, nat_le, slice_index}
 use Rattle.elements.specs.declared.pixel.Pixel.{Pixel}
 use Rattle.sources.specs.Meaning.{Meaning}
 use Rattle.sources.specs.Edges.{repeated}

@@ -6,14 +6,13 @@ use Rattle.forms.specs.declared.faults.Fault.{Fault}
 use Rattle.forms.specs.declared.faults.Fault.TheVariants.{TooManyTerms, OutsideWindow}
 use Rattle.forms.specs.Window.{row_of, column_of, in_window, stays}
 use Rattle.forms.specs.Sets.{Has, cells, every, movable, moved}
-use Rattle.forms.specs.Terms.{most_terms, In, Inside, TrueOn, Terms, Uses, used}
+use Rattle.forms.specs.Terms.{most_terms, In, Inside, TrueOn, Terms, used}
 use Rattle.forms.specs.Places.{Picks, TrueAt}
 use Rattle.forms.specs.Entering.{Made, made, declined, bounded, enter}
 use Rattle.forms.specs.Parts.{terms_of, outcome}
-use Rattle.forms.proofs.Entered.{in_at}
-use Rattle.forms.proofs.Listed.{cells_in, in_cells, cells_some, every_in, in_every, uses_used, used_uses}
+use Rattle.forms.proofs.Listed.{cells_in, in_cells, cells_some, every_in, uses_used, used_uses}
 use Rattle.forms.proofs.Moving.{Fits, movable_fits, moved_to, moved_from}
-use Rattle.forms.proofs.Whole.{sets_form, size_some}
+use Rattle.forms.proofs.Whole.{sets_form}
 use Rattle.joins.specs.Joins.{after, enter_all, unions, max_of, min_of, min_at, all_at, max_at, any_at, stays_all, compose}
 use Rattle.joins.specs.Outcomes.{Ensured, After, Leaves, Outside}
 use Rattle.joins.proofs.Entries.{between, all_to, all_from, min_to, min_from}

@@ -1,13 +1,12 @@
 -- Where a form is true after terms were entered, and after unions were.
-use Rattle.std.proofs.Common.{◌≡◌, ℕ, zero, suc, ◌+◌, ◌-◌, ◌^◌, ◌<◌, ◌≤◌, Bool, true, false, cond, leb, ◌⊎◌, List, [], ◌∷◌, ◌++◌, map, length, sym, refl, ap, ◌∙◌, subst, ap₂, inl, inr, arith}
+use Rattle.std.proofs.Common.{◌≡◌, ℕ, Bool, true, false, cond, leb, ◌⊎◌, List, [], ◌∷◌, ◌++◌, map, length, sym, refl, subst, inl, inr, arith}
 use lib.Bits.{bit_or}
-use Rattle.forms.specs.Sets.{bit, Has}
 use Rattle.forms.specs.Terms.{most_terms, In, Inside, TrueOn}
 use Rattle.forms.specs.Entering.{Made, made, declined, bounded, enter}
 use Rattle.forms.proofs.Bits.{has_or}
 use Rattle.forms.proofs.Entered.{enter_to, enter_from}
 use Rattle.forms.proofs.Moving.{in_map, map_in}
-use Rattle.joins.specs.Joins.{after, enter_all, unions, max_of, min_of}
+use Rattle.joins.specs.Joins.{after, enter_all, unions, min_of}
 
 -- the middle of a chain that was made
 pub between : (m : Made) (k : List ℕ → Made) (h : List ℕ) → after m k ≡ made h → (f : List ℕ) × (m ≡ made f) × (k f ≡ made h)

@@ -1,10 +1,10 @@
 -- What is entered in order leaves the minimal sets of all that was entered.
-use Rattle.std.proofs.Common.{◌≡◌, ℕ, ◌⊎◌, List, [], ◌∷◌, ◌++◌, Ok, Err, Result, sym, refl, ap, ◌∙◌, subst, inl, inr, append_assoc, append-nil, arith}
+use Rattle.std.proofs.Common.{◌≡◌, ℕ, ◌⊎◌, List, [], ◌∷◌, ◌++◌, Ok, Err, Result, sym, subst, inl, inr, append_assoc, append-nil}
 use Rattle.forms.specs.declared.tables.Form.{Form}
 use Rattle.forms.specs.declared.faults.Fault.{Fault}
 use Rattle.forms.specs.Sets.{Sub}
 use Rattle.forms.specs.Terms.{In, True}
-use Rattle.forms.specs.Entering.{Made, made, declined, bounded, enter, Minimal}
+use Rattle.forms.specs.Entering.{made, bounded, enter, Minimal}
 use Rattle.forms.specs.Parts.{terms_of, outcome}
 use Rattle.forms.proofs.Bits.{sub_refl, sub_trans, sub_anti}
 use Rattle.forms.proofs.Forms.{Sound, sound_ascending, apart}

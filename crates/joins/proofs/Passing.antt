@@ -1,9 +1,9 @@
 -- The turns of the loops of a composition, over cells and over terms.
-use Rattle.std.proofs.Common.{◌≡◌, ℕ, ◌+◌, ◌<◌, ◌≤◌, Bool, true, false, cond, ◌&&◌, ◌⊎◌, List, [], ◌∷◌, map, length, get_or, drop, sym, refl, ap, ◌∙◌, subst, inl, inr, arith}
+use Rattle.std.proofs.Common.{◌≡◌, ℕ, ◌+◌, ◌<◌, ◌≤◌, Bool, true, false, ◌&&◌, List, [], ◌∷◌, map, length, get_or, drop, sym, ap, ◌∙◌, arith}
 use Rattle.std.proofs.lemmas.List.{drop_more, drop_all}
 use Rattle.std.proofs.lemmas.Bool.{cond-true, cond-false}
 use Rattle.forms.specs.Sets.{Has, cells, cells_from, every, movable, moved}
-use Rattle.forms.specs.Terms.{In, Uses, used}
+use Rattle.forms.specs.Terms.{In, used}
 use Rattle.forms.specs.Entering.{Made, made, declined}
 use Rattle.forms.proofs.Listed.{cells_in, every_in, uses_used}
 use Rattle.joins.specs.Joins.{after, max_of, min_of, min_at, all_at, max_at, any_at, stays_all, compose}

@@ -1,13 +1,12 @@
 -- The turns of the loops that enter terms and unions.
-use Rattle.std.proofs.Common.{◌≡◌, ℕ, ◌+◌, ◌<◌, ◌≤◌, Bool, true, false, cond, List, [], ◌∷◌, ◌++◌, map, length, get_or, drop, sym, refl, ap, ◌∙◌, subst, inl, inr, arith}
+use Rattle.std.proofs.Common.{◌≡◌, ℕ, ◌+◌, ◌<◌, ◌≤◌, List, [], ◌∷◌, ◌++◌, map, length, get_or, drop, sym, refl, ap, ◌∙◌, inl, arith}
 use lib.Bits.{bit_or}
 use Rattle.std.proofs.lemmas.List.{drop_more, drop_all, length-map, get_or-map}
 use Rattle.std.proofs.lemmas.Bool.{cond-true}
-use Rattle.forms.specs.Sets.{Sub}
 use Rattle.forms.specs.Entering.{Made, made, declined, bounded, enter, covers, put, without}
 use Rattle.forms.proofs.Bits.{sub_refl}
 use Rattle.forms.proofs.Entered.{true_covers}
-use Rattle.joins.specs.Joins.{after, enter_all, unions, max_of, min_of}
+use Rattle.joins.specs.Joins.{after, enter_all, unions, min_of}
 
 -- what is left of ts, entered into f, gives o
 abbrev pub Entering : Made → List ℕ → ℕ → List ℕ → Type 0

@@ -1,10 +1,10 @@
 -- Where joined forms are true, and which compositions leave the window.
-use Rattle.std.specs.Prelude.{◌≡◌, ℕ, ◌^◌, ◌<◌, Bool, true, false, ◌⊎◌, List, ℤ, ◌+ℤ◌, Ok, Err, Result}
+use Rattle.std.specs.Prelude.{◌≡◌, ℕ, ◌<◌, Bool, true, false, ◌⊎◌, List, ℤ, ◌+ℤ◌, Ok, Err, Result}
 use Rattle.forms.specs.declared.tables.Form.{Form}
 use Rattle.forms.specs.declared.faults.Fault.{Fault}
 use Rattle.forms.specs.declared.faults.Fault.TheVariants.{TooManyTerms, OutsideWindow}
 use Rattle.forms.specs.Window.{row_of, column_of, in_window}
-use Rattle.forms.specs.Terms.{True, TrueOn, Uses}
+use Rattle.forms.specs.Terms.{TrueOn, Uses}
 use Rattle.forms.specs.Places.{Picks, TrueAt}
 use Rattle.forms.specs.Parts.{terms_of}
 

@@ -1,9 +1,9 @@
 -- Rows of a source.
-use Rattle.std.proofs.Common.{◌≡◌, ℕ, ◌+◌, ◌-◌, ◌<◌, ◌≤◌, Bool, true, false, ◌⊎◌, List, length, get_or, set, ℤ, pos, negsuc, ◌+ℤ◌, ◌-ℤ◌, neg_ℤ, ◌≤ℤ◌, ◌<ℤ◌, Decides, sym, refl, ap, ◌∙◌, subst, inl, inr, arith, w32, SFits, to_z, of_z}
+use Rattle.std.proofs.Common.{◌≡◌, ℕ, ◌+◌, ◌<◌, ◌≤◌, Bool, List, length, get_or, set, ℤ, pos, ◌+ℤ◌, Decides, sym, ◌∙◌, subst, inl, inr, arith, w32, SFits, to_z, of_z}
 use Rattle.std.proofs.lemmas.List.{get_or-set_same, get_or-set_other}
 use Rattle.std.proofs.lemmas.Int.{ints, to_z-of_z}
 use Rattle.std.proofs.lemmas.Bool.{cases_order}
-use Rattle.sources.specs.Meaning.{Meaning, Ranges, Within, Readable, RowWithin, RowReadable, RowHolds}
+use Rattle.sources.specs.Meaning.{Meaning, Ranges, Readable, RowWithin, RowReadable, RowHolds}
 
 -- what the test of a row says, once the row and its first column went through 32 bits
 pub through : (b : Bool) (h w : ℕ) (g row first : ℤ) (n : ℕ) → SFits w32 row → SFits w32 first

@@ -1,5 +1,5 @@
 -- What the tests of loading answer, and what the bytes of saving are.
-use Rattle.std.proofs.Common.{◌≡◌, ℕ, ◌+◌, ◌-◌, ◌*◌, ◌^◌, ◌<◌, ◌≤◌, Bool, true, false, cond, not, ◌||◌, eqb, ltb, List, [], ◌∷◌, ◌++◌, length, get_or, take, drop, set, Ok, Err, Result, sym, refl, ap, ◌∙◌, subst, append_assoc, add-one, arith, w8, Fits}
+use Rattle.std.proofs.Common.{◌≡◌, ℕ, ◌+◌, ◌-◌, ◌*◌, ◌^◌, ◌<◌, ◌≤◌, true, false, cond, not, ◌||◌, eqb, ltb, List, [], ◌∷◌, ◌++◌, length, get_or, take, drop, set, Ok, Err, Result, sym, refl, ap, ◌∙◌, append_assoc, add-one, arith, w8, Fits}
 use Rattle.std.proofs.lemmas.List.{drop_more, set_at, take_at}
 use Rattle.std.proofs.lemmas.Bool.{cond-true, cond-false, lt-ltb, le-ltb, eq-eqb, ne_eqb, or_from, or_left, or_right, not_from_true}
 use Rattle.forms.specs.declared.tables.Form.{Form}
@@ -10,7 +10,7 @@ use Rattle.stored.specs.Packing.{spelled, bit_at, packed}
 use Rattle.stored.specs.Layout.{term_start, bytes_for, stored_bit, stored, version_in, count_in, terms_in, filling_in, ascends, none_inside, Loaded, accepted, refused, checked, loaded, count_bits, version}
 use Rattle.stored.specs.Outcomes.{bytes_of, content_of, outcome, LoadedBack}
 use Rattle.stored.proofs.Spelling.{packed_length}
-use Rattle.stored.proofs.Undoing.{stored_length, loaded_stored, stored_loaded}
+use Rattle.stored.proofs.Undoing.{loaded_stored, stored_loaded}
 
 -- ---- loading
 module _ (w v : ℕ) (bytes : List ℕ) where

@@ -1,14 +1,14 @@
 -- The terms that bytes hold, read in order.
-use Rattle.std.proofs.Common.{◌≡◌, ℕ, zero, suc, ◌+◌, ◌*◌, ◌^◌, ◌<◌, ◌≤◌, Bool, true, false, cond, not, ◌&&◌, ◌||◌, eqb, ltb, ◌⊎◌, List, [], ◌∷◌, ◌++◌, length, get_or, take, drop, sym, refl, ap, ◌∙◌, subst, inl, inr, arith}
+use Rattle.std.proofs.Common.{◌≡◌, ℕ, zero, suc, ◌+◌, ◌<◌, ◌≤◌, Bool, true, false, cond, not, ◌&&◌, ◌||◌, eqb, ltb, List, [], ◌∷◌, ◌++◌, length, get_or, take, drop, sym, refl, ap, ◌∙◌, subst, inl, inr, arith}
 use lib.Bits.{bit_and}
 use Rattle.std.proofs.lemmas.List.{drop_more, drop_all, take_more, take_all}
-use Rattle.std.proofs.lemmas.Bool.{and_parts, ltb-true, lt-ltb, le-ltb, cases_Bool, or_cases, not-true, eqb-true, eqb-false, cond-true, cond-false, eq-eqb}
+use Rattle.std.proofs.lemmas.Bool.{and_parts, ltb-true, lt-ltb, le-ltb, cases_Bool, or_cases, not-true, eqb-true, eqb-false, cond-true, cond-false}
 use Rattle.forms.specs.Sets.{Sub, sub, every}
 use Rattle.forms.specs.Terms.{most_terms, In, True, Apart, Ascending}
-use Rattle.forms.specs.Entering.{Made, made, declined, bounded, enter}
+use Rattle.forms.specs.Entering.{made, declined, bounded, enter}
 use Rattle.forms.proofs.Entered.{in_at, enter_last, bounded_made}
 use Rattle.forms.proofs.Listed.{every_in}
-use Rattle.stored.specs.Layout.{ascends, none_inside, Loaded, accepted, refused}
+use Rattle.stored.specs.Layout.{ascends, none_inside, accepted, refused}
 use Rattle.stored.proofs.Undoing.{apart_true}
 
 -- ---- whether they ascend

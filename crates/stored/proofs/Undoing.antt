@@ -1,16 +1,16 @@
 -- Loading undoes storing, and storing undoes loading, for any width of the count field.
-use Rattle.std.proofs.Common.{◌≡◌, ℕ, zero, suc, ◌+◌, ◌-◌, ◌*◌, ◌/◌, ◌%◌, ◌^◌, ◌<◌, ◌≤◌, Bool, true, false, cond, not, ◌&&◌, ◌||◌, eqb, ltb, ◌⊎◌, List, [], ◌∷◌, ◌++◌, length, get_or, take, sym, refl, ap, ◌∙◌, subst, ap₂, inl, inr, add-one, arith}
+use Rattle.std.proofs.Common.{◌≡◌, ℕ, zero, suc, ◌+◌, ◌-◌, ◌*◌, ◌/◌, ◌%◌, ◌^◌, ◌<◌, ◌≤◌, Bool, true, false, cond, not, ◌||◌, eqb, ltb, ◌⊎◌, List, [], ◌∷◌, ◌++◌, length, get_or, take, sym, refl, ap, ◌∙◌, ap₂, inl, inr, add-one, arith}
 use lib.Bits.{bit_and}
 use Rattle.std.proofs.lemmas.Nat.{pow_pos}
 use Rattle.std.proofs.lemmas.List.{get_or_past, get_or_push, get_or_append_left, take_more, take_all, length_push, ext_get_or}
-use Rattle.std.proofs.lemmas.Bool.{cond-true, cond-false, cond_both, lt-ltb, le-ltb, ltb-true, eq-eqb, eqb-true, cases_order, cases_lt, cases_eq, or_from, or_parts, or_left, or_right, and_from, not_from_true, ne_eqb, not-false}
-use Rattle.forms.specs.Sets.{Sub, sub, every}
+use Rattle.std.proofs.lemmas.Bool.{cond-true, cond-false, cond_both, lt-ltb, le-ltb, eq-eqb, eqb-true, cases_order, cases_lt, cases_eq, or_from, or_left, or_right, and_from, not_from_true, ne_eqb}
+use Rattle.forms.specs.Sets.{sub, every}
 use Rattle.forms.specs.Terms.{In, Terms, Ascending, Apart}
 use Rattle.forms.proofs.Entered.{in_at}
 use Rattle.forms.proofs.Listed.{in_every}
 use Rattle.stored.specs.Packing.{field_bit, spelled, bit_at, packed}
 use Rattle.stored.specs.Layout.{term_start, bytes_for, stored_bit, stored, version_in, count_in, term_in, terms_in, filling_in, ascends, none_inside, Loaded, accepted, refused, checked, loaded}
-use Rattle.stored.proofs.Spelling.{Bits, field_bits, spelled_bit, field_spelled, spelled_below, spelled_same, zero_bit, at_bits, packed_length, packed_at, packed_bit, byte_spelled}
+use Rattle.stored.proofs.Spelling.{Bits, field_bits, spelled_bit, field_spelled, spelled_same, zero_bit, at_bits, packed_length, packed_at, packed_bit, byte_spelled}
 
 -- ---- the bits of a stored form
 module _ (w v : ℕ) (f : List ℕ) where

@@ -1,6 +1,6 @@
 -- The stored bytes of a form, for a version v whose count field has w bits:
 -- 4 bits of version, w bits of the term count less 1, 63 bits for each term, and zero bits to the end of the byte.
-use Rattle.std.specs.Prelude.{◌≡◌, ℕ, zero, suc, ◌+◌, ◌-◌, ◌*◌, ◌/◌, ◌%◌, ◌^◌, ◌<◌, ◌≤◌, Bool, true, false, cond, not, ◌&&◌, ◌||◌, List, [], ◌∷◌, ◌++◌, length, ◌==◌, nat_lt, slice_index}
+use Rattle.std.specs.Prelude.{◌≡◌, ℕ, zero, suc, ◌+◌, ◌-◌, ◌*◌, ◌/◌, ◌%◌, ◌^◌, ◌<◌, ◌≤◌, Bool, true, cond, not, ◌&&◌, ◌||◌, List, [], ◌∷◌, ◌++◌, length, ◌==◌, nat_lt, slice_index}
 use Rattle.forms.specs.Sets.{sub, every}
 use Rattle.forms.specs.Terms.{Terms, Ascending, Apart}
 use Rattle.stored.specs.Packing.{field_bit, spelled, bit_at, packed}

@@ -1,5 +1,5 @@
 -- The values of joined forms, for every ordered kind.
-use Rattle.std.proofs.Common.{◌≡◌, ℕ, Bool, ◌⊎◌, List, [], ℤ, ◌+ℤ◌, inl, inr}
+use Rattle.std.proofs.Common.{◌≡◌, ℕ, Bool, ◌⊎◌, List, ℤ, ◌+ℤ◌, inl, inr}
 use Rattle.forms.specs.Window.{row_of, column_of}
 use Rattle.forms.specs.Terms.{TrueOn}
 use Rattle.forms.specs.Places.{TrueAt}

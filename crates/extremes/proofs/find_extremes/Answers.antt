@@ -1,14 +1,10 @@
-use Rattle.std.proofs.Common.{◌≡◌, ℕ, ◌+◌, ◌-◌, ◌*◌, ◌<◌, Bool, true, false, length, get_or, ℤ, pos, ◌≤ℤ◌, ◌<ℤ◌, is_err, sym, refl, ap, ◌∙◌, subst, arith, w32, to_z}
+use Rattle.std.proofs.Common.{◌≡◌, ℕ, ◌+◌, ◌*◌, ◌<◌, length, get_or, pos, ◌≤ℤ◌, is_err, sym, ap, ◌∙◌, arith, w32, to_z}
 use Rattle.std.proofs.lemmas.Int.{to_z_pos}
 use Rattle.std.proofs.lemmas.Bool.{both_ways}
-use Rattle.sources.specs.Meaning.{Meaning, Ranges, RowReadable, RowHolds}
-use Rattle.extremes.specs.declared.Found.{Found}
-use Rattle.extremes.specs.Leads.{Leads}
+use Rattle.sources.specs.Meaning.{Ranges}
 use Rattle.extremes.specs.First.{turned}
 use Rattle.extremes.specs.Leads.{element_in_order}
-use Rattle.extremes.specs.First.{First}
 use Rattle.extremes.proofs.Frames.{margin_known, row_readable, row_elements, row_holds, leads_next, first_place, last_row}
-use Rattle.extremes.proofs.find_extremes.Given as given
 use Rattle.extremes.proofs.find_extremes.Goals as goal
 
 pub returns-then-is_err : goal.returns-then-is_err

@@ -1,8 +1,6 @@
-use Rattle.std.proofs.Common.{◌≡◌, ℕ, ◌<◌, ◌≤◌, List, Ok, Err, sym, ap, ◌∙◌, subst}
+use Rattle.std.proofs.Common.{◌≡◌, ℕ, List, Ok, ap}
 use Rattle.std.proofs.lemmas.Result.{err_from_is_err_and}
-use Rattle.forms.specs.declared.tables.Form.{Form}
-use Rattle.forms.specs.declared.faults.Fault.{Fault}
-use Rattle.forms.specs.Entering.{declined, made}
+use Rattle.forms.specs.Entering.{made}
 use Rattle.forms.specs.Faults.{fault_number}
 use Rattle.forms.specs.Parts.{terms_of, told, outcome}
 use Rattle.joins.specs.Joins.{max_of}

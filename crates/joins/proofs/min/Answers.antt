@@ -1,7 +1,7 @@
-use Rattle.std.proofs.Common.{◌≡◌, ℕ, ◌<◌, ◌≤◌, List, [], ◌∷◌, get_or, Ok, Err, sym, ap, ◌∙◌, subst}
+use Rattle.std.proofs.Common.{◌≡◌, ℕ, List, get_or, Ok, sym, ap, ◌∙◌, subst}
 use lib.Bits.{bit_or}
 use Rattle.std.proofs.lemmas.Result.{err_from_is_err_and}
-use Rattle.forms.specs.Entering.{declined, made}
+use Rattle.forms.specs.Entering.{made}
 use Rattle.forms.specs.Faults.{fault_number}
 use Rattle.forms.specs.Parts.{terms_of, told, outcome}
 use Rattle.forms.proofs.Whole.{size_some}

@@ -1,7 +1,7 @@
-use Rattle.std.proofs.Common.{◌≡◌, Bool, true, false, sym, ap, ◌∙◌, arith, rules}
+use Rattle.std.proofs.Common.{◌≡◌, true, false, sym, ap, ◌∙◌, arith}
 use Rattle.std.proofs.lemmas.Bool.Decides.{nat_tests}
 use Rattle.std.proofs.lemmas.Bool.{cond-true, cond-false}
-use Rattle.images.specs.Reading.{surveyed, has_magic, header_of, of_header}
+use Rattle.images.specs.Reading.{surveyed, has_magic, of_header}
 use Rattle.images.proofs.reading.survey.Goals as goal
 
 pub returns-then-bytes-lt2 : goal.returns-then-bytes-lt2

@@ -1,4 +1,4 @@
-use Rattle.std.proofs.Common.{◌+◌, ◌-◌, refl, ap, arith}
+use Rattle.std.proofs.Common.{◌+◌, ◌-◌, ap, arith}
 use Rattle.images.specs.Samples.{pixel, sample_at}
 use Rattle.images.proofs.Parts.{written_more}
 use Rattle.images.proofs.rows.decode.Goals as goal

@@ -1,11 +1,4 @@
-use Rattle.std.proofs.Common.{◌≡◌, ℕ, ◌<◌, List, sym, ap, ◌∙◌, arith}
-use Rattle.std.proofs.lemmas.Result.{err_from_is_err_and}
-use Rattle.forms.specs.Faults.{fault_number}
-use Rattle.forms.specs.Sets.{cells, cells_from}
-use Rattle.forms.specs.Parts.{terms_of, outcome}
 use Rattle.forms.proofs.Listed.{from_has, first_has}
-use Rattle.joins.specs.Joins.{all_at}
-use Rattle.joins.proofs.Passing.{cell_start, cell_more, cell_stop, cell_end}
 use Rattle.joins.proofs.composition.at_term.Goals as goal
 
 pub moved_to-requires : goal.moved_to-requires

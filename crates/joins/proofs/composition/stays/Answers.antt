@@ -1,4 +1,4 @@
-use Rattle.std.proofs.Common.{◌≡◌, ℕ, ◌<◌, List, sym, ap, ◌∙◌, arith}
+use Rattle.std.proofs.Common.{arith}
 use Rattle.forms.specs.Parts.{terms_of}
 use Rattle.forms.proofs.Listed.{cells_whole}
 use Rattle.joins.proofs.Passing.{staying_start, staying_more, staying_stop, staying_end}

@@ -1,9 +1,8 @@
-use Rattle.std.proofs.Common.{◌≡◌, ℕ, ◌+◌, ◌<◌, true, false, length, ℤ, pos, ◌+ℤ◌, Ok, Err, Decides, sym, refl, ap, ◌∙◌, arith, w32, SFits, to_z, of_z, rules}
+use Rattle.std.proofs.Common.{◌≡◌, ℕ, length, pos, ◌+ℤ◌, refl, ap, ◌∙◌, arith, w32, to_z, of_z}
 use Rattle.std.proofs.lemmas.Int.{ints, to_z-of_z}
 use Rattle.std.proofs.lemmas.Bool.{both_ways}
-use Rattle.sources.specs.Meaning.{Meaning, Ranges, Readable, RowReadable, RowHolds}
+use Rattle.sources.specs.Meaning.{Ranges}
 use Rattle.sources.proofs.Rows.{tells, fits_at, few, at, holds_more, holds_all}
-use Rattle.sources.proofs.Source.read_row.Given as given
 use Rattle.sources.proofs.Source.read_row.Goals as goal
 
 pub returns-then-not-holds_row : goal.returns-then-not-holds_row

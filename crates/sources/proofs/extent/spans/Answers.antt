@@ -1,4 +1,4 @@
-use Rattle.std.proofs.Common.{◌≡◌, ℕ, true, false, arith}
+use Rattle.std.proofs.Common.{◌≡◌, ℕ, true, arith}
 use Rattle.std.proofs.lemmas.Int.{ints}
 use Rattle.sources.proofs.Axis.{from_ends, at_first, at_end}
 use Rattle.sources.proofs.extent.spans.Goals as goal

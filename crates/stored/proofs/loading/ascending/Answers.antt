@@ -1,4 +1,4 @@
-use Rattle.std.proofs.Common.{◌≡◌, ℕ, ◌<◌, ◌≤◌, List, length, get_or, sym, ap, ◌∙◌, arith}
+use Rattle.std.proofs.Common.{◌≡◌, ℕ, ◌<◌, List, length, get_or, sym, ap, ◌∙◌, arith}
 use Rattle.stored.specs.Packing.{bit_at, spelled}
 use Rattle.stored.specs.Layout.{terms_in, term_in, count_bits}
 use Rattle.stored.proofs.Undoing.{terms_length, terms_at}

@@ -1,5 +1,5 @@
-use Rattle.std.proofs.Common.{◌≡◌, ℕ, ◌-◌, ◌/◌, ◌%◌, ◌^◌, ◌<◌, get_or, ◌∙◌, arith}
-use lib.Bits.{bit_and, and_mask}
+use Rattle.std.proofs.Common.{◌≡◌, ◌-◌, ◌/◌, ◌%◌, ◌^◌, get_or, ◌∙◌, arith}
+use lib.Bits.{and_mask}
 use Rattle.stored.specs.Packing.{bit_at}
 use Rattle.stored.proofs.loading.bit.Goals as goal
 

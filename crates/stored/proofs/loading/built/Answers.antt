@@ -1,9 +1,9 @@
-use Rattle.std.proofs.Common.{◌≡◌, ℕ, ◌+◌, ◌<◌, ◌≤◌, true, false, List, [], ◌∷◌, length, get_or, take, sym, ap, ◌∙◌, subst, arith}
+use Rattle.std.proofs.Common.{ℕ, ◌<◌, ◌≤◌, List, [], ◌∷◌, length, sym, ap, ◌∙◌, arith}
 use Rattle.std.proofs.lemmas.Bool.{both_ways}
 use Rattle.forms.specs.Terms.{most_terms}
 use Rattle.forms.specs.Parts.{terms_of}
 use Rattle.forms.proofs.Whole.{apart_form}
-use Rattle.stored.specs.Layout.{terms_in, term_in, count_bits}
+use Rattle.stored.specs.Layout.{terms_in, count_bits}
 use Rattle.stored.proofs.Undoing.{terms_length, terms_at}
 use Rattle.stored.proofs.Reading.{ascends_to, first_taken, turn_refused, turn_never, turn_more, all_entered, built_accepted}
 use Rattle.stored.proofs.loading.built.Goals as goal

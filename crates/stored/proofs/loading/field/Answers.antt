@@ -1,4 +1,4 @@
-use Rattle.std.proofs.Common.{◌≡◌, ℕ, ◌*◌, ◌^◌, ◌<◌, ◌≤◌, arith, pow_mono}
+use Rattle.std.proofs.Common.{◌^◌, ◌≤◌, arith, pow_mono}
 use Rattle.stored.specs.Packing.{bit_at}
 use Rattle.stored.proofs.Spelling.{spelled_more, below_more}
 use Rattle.stored.proofs.loading.field.Goals as goal

@@ -1,6 +1,5 @@
-use Rattle.std.proofs.Common.{◌≡◌, ℕ, ◌+◌, ◌-◌, ◌*◌, ◌<◌, ◌≤◌, true, false, List, length, sym, ap, ◌∙◌}
-use Rattle.stored.specs.Packing.{spelled, bit_at}
-use Rattle.stored.specs.Layout.{refused, version_in, count_in, filling_in, bytes_for, terms_in, ascends, count_bits, version}
+use Rattle.std.proofs.Common.{◌≡◌, ℕ, ◌+◌, List, sym, ap, ◌∙◌}
+use Rattle.stored.specs.Layout.{refused, count_in, count_bits, version}
 use Rattle.stored.specs.Outcomes.{content_of, outcome}
 use Rattle.stored.proofs.Undoing.{stored_loaded}
 use Rattle.stored.proofs.Answering.{too_short, other_version, wrong_length, filled_wrong, not_above, above, filling_read, loaded_back}

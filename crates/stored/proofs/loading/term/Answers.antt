@@ -1,4 +1,4 @@
-use Rattle.std.proofs.Common.{◌≡◌, ℕ, ◌^◌, ◌<◌, ◌≤◌, ◌⊎◌, List, length, get_or, sym, ap, ◌∙◌, subst, inl, inr, arith}
+use Rattle.std.proofs.Common.{◌≡◌, ℕ, ◌^◌, ◌<◌, ◌≤◌, List, length, get_or, ap, ◌∙◌, inl, inr, arith}
 use Rattle.forms.proofs.Entered.{in_at}
 use Rattle.stored.specs.Packing.{bit_at, spelled}
 use Rattle.stored.specs.Layout.{terms_in, term_in, count_bits}

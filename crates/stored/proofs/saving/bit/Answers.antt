@@ -1,8 +1,7 @@
-use Rattle.std.proofs.Common.{◌≡◌, ℕ, ◌-◌, ◌/◌, ◌%◌, ◌<◌, ◌≤◌, List, sym, ap, ◌∙◌, arith}
+use Rattle.std.proofs.Common.{ℕ, List, sym, arith}
 use Rattle.forms.specs.Parts.{terms_of}
-use Rattle.stored.specs.Layout.{count_bits, version, stored_bit}
-use Rattle.stored.specs.Packing.{field_bit}
-use Rattle.stored.proofs.Undoing.{version_bit, count_bit, late_bit, fill_bit}
+use Rattle.stored.specs.Layout.{count_bits, version}
+use Rattle.stored.proofs.Undoing.{fill_bit}
 use Rattle.stored.proofs.saving.bit.Goals as goal
 
 pub returns-in-None : goal.returns-in-None

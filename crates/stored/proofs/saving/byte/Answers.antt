@@ -1,4 +1,4 @@
-use Rattle.std.proofs.Common.{◌≡◌, ℕ, ◌*◌, ◌^◌, ◌<◌, ◌≤◌, sym, ap, ◌∙◌, subst, arith, pow_mono}
+use Rattle.std.proofs.Common.{◌≡◌, ◌*◌, ◌^◌, ◌≤◌, ap, ◌∙◌, arith, pow_mono}
 use Rattle.forms.specs.Parts.{terms_of}
 use Rattle.stored.specs.Packing.{spelled}
 use Rattle.stored.specs.Layout.{stored_bit, count_bits, version}

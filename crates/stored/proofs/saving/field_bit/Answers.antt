@@ -1,6 +1,5 @@
-use Rattle.std.proofs.Common.{◌≡◌, ℕ, ◌-◌, ◌/◌, ◌%◌, ◌^◌, ◌<◌, ◌∙◌, arith}
-use lib.Bits.{bit_and, and_mask}
-use Rattle.stored.specs.Packing.{field_bit}
+use Rattle.std.proofs.Common.{◌-◌, ◌/◌, ◌^◌, arith}
+use lib.Bits.{and_mask}
 use Rattle.stored.proofs.saving.field_bit.Goals as goal
 
 pub returns : goal.returns

@@ -1,4 +1,4 @@
-use Rattle.std.proofs.Common.{◌≡◌, ℕ, ◌<◌, ◌≤◌, List, ◌++◌, length, drop, sym, refl, ap, ◌∙◌, arith, rules}
+use Rattle.std.proofs.Common.{◌≡◌, ℕ, List, ◌++◌, length, drop, sym, ap, ◌∙◌, arith, rules}
 use Rattle.forms.specs.Parts.{terms_of}
 use Rattle.stored.specs.Layout.{stored_bit, bytes_for, count_bits, version}
 use Rattle.stored.specs.Outcomes.{bytes_of}

@@ -1,5 +1,5 @@
-use Rattle.std.proofs.Common.{◌≡◌, ℕ, ◌+◌, ◌<◌, Bool, List, ◌∷◌, Decides, sym, ap, ◌∙◌, subst, arith}
-use Rattle.forms.specs.Sets.{Has, cells_from}
+use Rattle.std.proofs.Common.{◌≡◌, ℕ, ◌+◌, sym, ap, ◌∙◌, arith}
+use Rattle.forms.specs.Sets.{cells_from}
 use Rattle.forms.proofs.Listed.{cells_more, cells_skip, cells_none}
 use Rattle.forms.proofs.sets.Term.cell_from.Goals as goal
 

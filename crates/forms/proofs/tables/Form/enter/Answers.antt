@@ -1,10 +1,10 @@
-use Rattle.std.proofs.Common.{◌≡◌, ℕ, ◌+◌, ◌<◌, ◌≤◌, true, false, List, ◌∷◌, length, take, sym, refl, ap, ◌∙◌, subst, arith, length-take, rules}
+use Rattle.std.proofs.Common.{◌≡◌, ℕ, ◌+◌, ◌<◌, ◌≤◌, true, false, List, ◌∷◌, length, take, sym, ap, ◌∙◌, subst, arith, length-take, rules}
 use Rattle.std.proofs.lemmas.Bool.{cond-true}
 use Rattle.forms.specs.Terms.{most_terms, Terms, Ascending, Apart}
-use Rattle.forms.specs.Entering.{holds, covers, without, put, enter, bounded, made, declined, Minimal}
+use Rattle.forms.specs.Entering.{holds, covers, without, put, enter, bounded, Minimal}
 use Rattle.forms.specs.Parts.{terms_of}
 use Rattle.forms.proofs.Forms.{Sound, apart, sound_ascending}
-use Rattle.forms.proofs.Entered.{enters, enter_terms, enter_put, entered, bounded_made, bounded_full, length_enter, enter_minimal, sound_of, terms_of_lem}
+use Rattle.forms.proofs.Entered.{enters, enter_terms, entered, bounded_made, bounded_full, length_enter, enter_minimal, sound_of, terms_of_lem}
 use Rattle.forms.proofs.Left.{holds_covers}
 use Rattle.forms.proofs.tables.Form.enter.Goals as goal
 

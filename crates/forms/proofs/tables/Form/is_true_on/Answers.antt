@@ -1,6 +1,4 @@
-use Rattle.std.proofs.Common.{◌≡◌, ℕ, true, List, sym, ap, ◌∙◌, subst}
-use Rattle.forms.specs.Sets.{Has}
-use Rattle.forms.specs.Terms.{True, TrueOn}
+use Rattle.std.proofs.Common.{◌≡◌, ℕ, List, sym, ap, ◌∙◌}
 use Rattle.forms.specs.Entering.{covers}
 use Rattle.forms.specs.Parts.{terms_of}
 use Rattle.forms.proofs.Bits.{bridge}

@@ -1,8 +1,8 @@
-use Rattle.std.proofs.Common.{◌≡◌, ℕ, ◌<◌, ◌≤◌, true, false, List, map, length, get_or, take, ◌+ℤ◌, sym, refl, ap, ◌∙◌, subst, arith, rules}
+use Rattle.std.proofs.Common.{◌≡◌, ℕ, ◌<◌, true, List, map, get_or, take, ◌+ℤ◌, sym, ap, ◌∙◌, subst, arith}
 use Rattle.std.proofs.lemmas.List.{length-set}
 use Rattle.forms.specs.Window.{row_of, column_of}
 use Rattle.forms.specs.Sets.{movable, moved}
-use Rattle.forms.specs.Terms.{most_terms, Terms, Ascending, Apart, used}
+use Rattle.forms.specs.Terms.{most_terms, Terms, Ascending, Apart}
 use Rattle.forms.specs.Places.{Picks, TrueAt}
 use Rattle.forms.specs.Parts.{terms_of}
 use Rattle.forms.proofs.Forms.{Sound, apart, sound_ascending}

@@ -1,4 +1,4 @@
-use Rattle.std.proofs.Common.{◌≡◌, ℕ, List, [], ◌∷◌, take, Some, None, Option, sym, ap, ◌∙◌}
+use Rattle.std.proofs.Common.{◌≡◌, ℕ, List, take, Some, None, Option}
 use Rattle.forms.specs.declared.sets.Term.{Term}
 use Rattle.forms.specs.Truth.{outside, telling}
 use Rattle.forms.specs.Parts.{terms_of, listed, Separates}

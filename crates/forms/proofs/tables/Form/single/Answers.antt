@@ -1,5 +1,4 @@
-use Rattle.std.proofs.Common.{◌≡◌, ℕ, List, [], ◌∷◌, sym, ap, subst, rules}
-use Rattle.forms.specs.Terms.{Terms, Ascending, Apart}
+use Rattle.std.proofs.Common.{[], ◌∷◌, rules}
 use Rattle.forms.proofs.Forms.{apart, sound_ascending}
 use Rattle.forms.proofs.Entered.{single_form, single_terms}
 use Rattle.forms.proofs.tables.Form.single.Goals as goal

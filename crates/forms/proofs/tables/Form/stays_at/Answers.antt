@@ -1,7 +1,7 @@
-use Rattle.std.proofs.Common.{◌≡◌, ℕ, ◌+◌, ◌<◌, Bool, true, false, not, ◌&&◌, List, [], ◌∷◌, is_some, Some, None, Decides, Option, sym, refl, ap, ◌∙◌, subst, arith}
+use Rattle.std.proofs.Common.{◌≡◌, ℕ, ◌+◌, ◌<◌, Bool, true, false, not, ◌&&◌, List, [], ◌∷◌, is_some, Some, None, Decides, Option, sym, ap, ◌∙◌, arith}
 use Rattle.forms.specs.declared.window.Cell.{Cell}
 use Rattle.forms.specs.Window.{stays, added}
-use Rattle.forms.specs.Sets.{every, movable, cells, cells_from}
+use Rattle.forms.specs.Sets.{every, movable, cells_from}
 use Rattle.forms.specs.Terms.{Uses, used}
 use Rattle.forms.specs.Parts.{terms_of}
 use Rattle.forms.proofs.Listed.{cells_whole}

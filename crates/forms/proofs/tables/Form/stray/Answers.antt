@@ -1,6 +1,5 @@
-use Rattle.std.proofs.Common.{◌≡◌, ℕ, ◌<◌, ◌≤◌, Bool, true, false, List, [], ◌∷◌, length, get_or, take, sym, ap, ◌∙◌, subst, arith}
+use Rattle.std.proofs.Common.{ℕ, List, [], ◌∷◌, sym, ap, ◌∙◌, arith}
 use Rattle.forms.specs.Entering.{covers}
-use Rattle.forms.specs.Truth.{outside}
 use Rattle.forms.specs.Parts.{terms_of}
 use Rattle.forms.proofs.Whole.{size_of, at, at_term_lem}
 use Rattle.forms.proofs.Laws.{stray_here, stray_on, stray_end}

@@ -1,6 +1,6 @@
 use Rattle.forms.specs.Terms.{most_terms}
-use Rattle.std.proofs.Common.{◌≡◌, ℕ, ◌+◌, ◌≤◌, List, length, sym, arith, rules}
-use Rattle.forms.proofs.Left.{Putting, putting_swap, putting_keep, putting_all}
+use Rattle.std.proofs.Common.{◌≡◌, length, arith, rules}
+use Rattle.forms.proofs.Left.{putting_swap, putting_keep, putting_all}
 use Rattle.forms.proofs.tables.entering.insert.Goals as goal
 use Rattle.forms.proofs.tables.entering.insert.Goals.{then-held-u, else-held-u}
 

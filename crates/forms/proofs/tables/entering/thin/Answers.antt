@@ -1,6 +1,6 @@
 use Rattle.forms.specs.Terms.{most_terms}
-use Rattle.std.proofs.Common.{◌≡◌, ℕ, ◌+◌, ◌≤◌, length, sym, arith, rules}
-use Rattle.forms.proofs.Left.{Thinning, thinning_out, thinning_keep, thinning_all}
+use Rattle.std.proofs.Common.{◌≡◌, length, arith, rules}
+use Rattle.forms.proofs.Left.{thinning_out, thinning_keep, thinning_all}
 use Rattle.forms.proofs.tables.entering.thin.Goals as goal
 use Rattle.forms.proofs.tables.entering.thin.Goals.{then-t-u, else-t-u}
 

@@ -1,4 +1,3 @@
-use Rattle.forms.specs.Terms.{most_terms}
 use Rattle.forms.proofs.Left.{Thinning}
 use Rattle.forms.proofs.tables.entering.thin.Given as goal
 

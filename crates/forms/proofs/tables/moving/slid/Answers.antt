@@ -1,6 +1,5 @@
-use Rattle.std.proofs.Common.{◌≡◌, ℕ, ◌-◌, ◌*◌, ◌%◌, ◌^◌, ◌<◌, ◌≤◌, sym, ◌∙◌, arith}
+use Rattle.std.proofs.Common.{ℕ, ◌^◌, ◌<◌, ◌≤◌, sym, ◌∙◌, arith}
 use Rattle.forms.specs.Terms.{Inside}
-use Rattle.forms.specs.Sets.{movable, moved}
 use Rattle.forms.proofs.Steps.{Stays}
 use Rattle.forms.proofs.Moving.{slid, slid_left, slid_right, slid_small, stays_whole, moved_slid, movable_stays}
 use Rattle.forms.proofs.tables.moving.slid.Goals as goal

@@ -1,4 +1,4 @@
-use Rattle.std.proofs.Common.{◌≡◌, ℕ, ◌/◌, ◌%◌, ◌<◌, true, false, ℤ, pos, ◌+ℤ◌, ◌-ℤ◌, Some, None, Option, sym, ap, ◌∙◌, ap₂, arith, w32, to_z, of_z}
+use Rattle.std.proofs.Common.{◌≡◌, ℕ, ◌/◌, ◌%◌, ◌<◌, true, false, ℤ, pos, ◌+ℤ◌, ◌-ℤ◌, Some, None, Option, sym, ◌∙◌, ap₂, arith, w32, to_z, of_z}
 use Rattle.std.proofs.lemmas.Int.{ints}
 use Rattle.forms.specs.declared.window.Cell.{Cell}
 use Rattle.forms.specs.Window.{row_of, column_of, in_window, stays, added}

@@ -1,4 +1,4 @@
-use Rattle.std.proofs.Common.{◌+◌, ◌*◌, ◌^◌, ◌<◌, arith}
+use Rattle.std.proofs.Common.{◌+◌, arith}
 use Rattle.images.proofs.Endian.{endian_more, endian_small, endian_fits}
 use Rattle.images.proofs.log.calls.big_endian.Goals as goal
 

@@ -1,4 +1,4 @@
-use Rattle.std.proofs.Common.{◌≡◌, ℕ, length, pos, vec_items, refl, ap, ◌∙◌, arith, w32}
+use Rattle.std.proofs.Common.{length, pos, vec_items, refl, ap, ◌∙◌, arith, w32}
 use Rattle.std.proofs.lemmas.Int.{to_z-of_z}
 use Rattle.std.proofs.lemmas.Bool.{both_ways}
 use Rattle.sources.specs.Edges.{nearest}
