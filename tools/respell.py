@@ -5,7 +5,7 @@ and modules in camel case.
 usage: python3 tools/respell.py          at the top of the repository, once, after the kit's port.py
 
 A word is what a file of specs/ or proofs/ declares with a small first letter: a definition, a lemma, a field, a
-constructor. Goals, steps and functions of src/ keep their names. The script stops, and writes nothing, where two names
+constructor; or what an import calls one. Goals, steps and functions of src/ keep their names. The script stops, and writes nothing, where two names
 would fall together.
 """
 
@@ -63,6 +63,8 @@ def declared():
             m = DECLARED.match(line)
             if m and not re.search(r":\s*goal\.", line):
                 words.add(m.group(1))
+    for path in sources("antt") + sources("rt"):
+        words |= set(re.findall(r"\bas ([a-z]\w*[A-Z]\w*)", re.sub(r"//.*", "", read(path))))
     return {w for w in words if w[:1].islower() and re.search(r"[a-z]", w)}
 
 

@@ -1,6 +1,6 @@
 // Comparing two texts by their forms.
 ghost use Rattle.forms.specs.Parts.{terms_of};
-ghost use Rattle.expressions.specs.Working.{compile as compileOf};
+ghost use Rattle.expressions.specs.Working.{compile as compile_of};
 ghost use Rattle.samples.specs.Laws.{Openings, Closings};
 ghost use Rattle.comparing.specs.Comparing.{Formed, Told, Outcome};
 
@@ -34,7 +34,7 @@ pub fn compare<K: Order>(
 
 // The form of one of the texts.
 fn form(text: &[u8], side: Side) -> Result<Form, CompareFault>
-    ensures { Formed result side (compileOf text.now) }
+    ensures { Formed result side (compile_of text.now) }
 {
     match compile(text) {
         Ok(form) => Ok(form),

@@ -1,6 +1,6 @@
 // Compiling a text.
 ghost use Rattle.grammar.specs.Reading.{parse, ReadsSpellings};
-ghost use Rattle.expressions.specs.Working.{compile as compileOf};
+ghost use Rattle.expressions.specs.Working.{compile as compile_of};
 ghost use Rattle.expressions.specs.Outcomes.{ReadWhole, Compiled};
 
 use crate::calls::expr;
@@ -16,7 +16,7 @@ pub const MOST_DEEP: u8 = 16;
 /// Declined with the first fault from the left of reading the text or, where it is read whole, with the first fault of
 /// working it out.
 pub fn compile(text: &[u8]) -> Result<Form, Fault>
-    ensures exact { Compiled result (compileOf text.now) }
+    ensures exact { Compiled result (compile_of text.now) }
     ensures spelling { ReadsSpellings text.now }
 {
     let held = read(text)?;

@@ -5,7 +5,7 @@ use Rattle.std.proofs.lemmas.Bool.{leb-true, eqb-true, le-leb, eq-eqb, and_parts
 use Rattle.letters.specs.declared.tokens.Sign.{Sign}
 use Rattle.letters.specs.declared.tokens.Sign.TheVariants.{OpenSquare, CloseSquare, OpenRound, CloseRound, Comma, Star}
 use Rattle.letters.specs.Bytes.{sign_byte}
-use Rattle.letters.specs.Scanning.{sign_of as signAt}
+use Rattle.letters.specs.Scanning.{sign_of as sign_at}
 use Rattle.letters.specs.Tokens.{Tok, word, number, sign, finish, wrong, Placed}
 use Rattle.forms.specs.Window.{row_of, column_of, number_at}
 use Rattle.forms.proofs.Steps.{number_at_lem}
@@ -41,7 +41,7 @@ unfolding Front
 read_none a ts rest f = ap (read a) f
 
 -- ---- single tokens
-sign_byte_lem : (s : Sign) → signAt (sign_byte s) ≡ Some s
+sign_byte_lem : (s : Sign) → sign_at (sign_byte s) ≡ Some s
 sign_byte_lem OpenSquare = refl
 sign_byte_lem CloseSquare = refl
 sign_byte_lem OpenRound = refl
@@ -50,7 +50,7 @@ sign_byte_lem Comma = refl
 sign_byte_lem Star = refl
 
 pub same_sign : (s r : Sign) → sign_byte s ≡ sign_byte r → s ≡ r
-same_sign s r e = let p = ap signAt e in let q = sign_byte_lem s in let t = sign_byte_lem r in cc
+same_sign s r e = let p = ap sign_at e in let q = sign_byte_lem s in let t = sign_byte_lem r in cc
 
 pub sign_gives : (s : Sign) (ts : Toks) → Gives (λ us. Front (plain (sign s) ∷ []) ts us) (sign_of s ts)
 unfolding Front

@@ -1,6 +1,6 @@
 // The words of the expression language.
 ghost use Rattle.std.specs.Prelude.{◌≡◌};
-ghost use Rattle.grammar.specs.Words.{same as sameLetters, word_of};
+ghost use Rattle.grammar.specs.Words.{same as same_letters, word_of};
 
 /// A word that joins two or more expressions.
 #[derive(Clone, Copy, PartialEq, Eq, Debug)]
@@ -62,7 +62,7 @@ impl Word {
 
 // Whether the letters are those of the word.
 fn same(letters: &[u8], word: &[u8]) -> bool
-    ensures { result ≡ sameLetters letters.now word.now }
+    ensures { result ≡ same_letters letters.now word.now }
 {
     letters == word
 }

@@ -1,6 +1,6 @@
 -- A field of the header, as it is read and as it is spelled.
 use Rattle.std.proofs.Common.{◌≡◌, ℕ, suc, ◌+◌, ◌-◌, ◌<◌, ◌≤◌, Bool, true, false, cond, ◌||◌, eqb, ltb, List, [], ◌∷◌, ◌++◌, length, take, drop, Some, None, sym, refl, ap, ◌∙◌, subst, inl, inr, one-add, arith}
-use Rattle.std.specs.List.{prefix_len, AllByRecursion as All}
+use Rattle.std.specs.List.{prefix_len, AllByRecursion}
 use Rattle.std.proofs.lemmas.List.{take-append-drop, drop-drop, drop_at, take_at, length-take-le, length-drop}
 use Rattle.std.proofs.lemmas.List.Sums.{prefix_len-le-length}
 use Rattle.std.proofs.lemmas.Bool.{cond-true, cond-false, cases_Bool}
@@ -16,10 +16,10 @@ Stops p [] = Unit {0}
 Stops p (b ∷ bs) = p b ≡ false
 
 module _ (p : ℕ → Bool) where
-  pub leading_all : (s : List ℕ) → All (λ b. p b ≡ true) (take (prefix_len p s) s)
+  pub leading_all : (s : List ℕ) → AllByRecursion (λ b. p b ≡ true) (take (prefix_len p s) s)
   leading_all [] = tt
   leading_all (b ∷ bs) =
-      let P : ℕ → Type 0 = λ n. All (λ b. p b ≡ true) (take n (b ∷ bs)) in
+      let P : ℕ → Type 0 = λ n. AllByRecursion (λ b. p b ≡ true) (take n (b ∷ bs)) in
       elim (cases_Bool (p b)) [
         | inl e ↦ subst P (sym (cond-true _ _ _ e ∙ one-add (prefix_len p bs))) (e, leading_all bs)
         | inr e ↦ subst P (sym (cond-false (p b) (1 + prefix_len p bs) 0 e)) tt
@@ -29,7 +29,7 @@ module _ (p : ℕ → Bool) where
   leading_stops [] h = refl
   leading_stops (b ∷ bs) h = cond-false _ _ _ h
 
-  pub leading_run : (s t : List ℕ) → All (λ b. p b ≡ true) s → Stops p t → prefix_len p (s ++ t) ≡ length s
+  pub leading_run : (s t : List ℕ) → AllByRecursion (λ b. p b ≡ true) s → Stops p t → prefix_len p (s ++ t) ≡ length s
   leading_run [] t a h = leading_stops t h
   leading_run (b ∷ bs) t (e, a) h = cond-true _ _ _ e ∙ one-add (prefix_len p (bs ++ t)) ∙ ap suc (leading_run bs t a h)
 
@@ -39,7 +39,7 @@ digit_not_white b e = grind (arith, nat_tests)
 white_not_digit : (b : ℕ) → white b ≡ true → digit b ≡ false
 white_not_digit b e = grind (arith, nat_tests)
 
-pub digits_stop : (ds t : List ℕ) → 1 ≤ length ds → All (λ b. digit b ≡ true) ds → Stops (belongs White) (ds ++ t)
+pub digits_stop : (ds t : List ℕ) → 1 ≤ length ds → AllByRecursion (λ b. digit b ≡ true) ds → Stops (belongs White) (ds ++ t)
 digits_stop [] t l a = absurd (omega arith)
 digits_stop (d ∷ ds) t l (e, a) = digit_not_white d e
 
@@ -50,7 +50,7 @@ white_stops b t e = white_not_digit b e
 pub field_stops : (s : List ℕ) (n : ℕ) (t : List ℕ) → Field s n t → Stops (belongs Digit) s
 field_stops s n t f = subst (Stops (belongs Digit)) (sym f.spelling) (go f.gap f.some_gap f.all_white)
   where
-    go : (g : List ℕ) → 1 ≤ length g → All (λ b. white b ≡ true) g → Stops (belongs Digit) (g ++ (f.digits ++ t))
+    go : (g : List ℕ) → 1 ≤ length g → AllByRecursion (λ b. white b ≡ true) g → Stops (belongs Digit) (g ++ (f.digits ++ t))
     go [] l a = absurd (omega arith)
     go (b ∷ g) l (e, a) = white_not_digit b e
 

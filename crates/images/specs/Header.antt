@@ -1,6 +1,6 @@
 -- The header of a PGM file: which bytes spell one, and what it says.
 use Rattle.std.specs.Prelude.{◌≡◌, ℕ, ◌-◌, ◌≤◌, Bool, true, ◌&&◌, ◌||◌, List, ◌∷◌, ◌++◌, map, length, ◌==◌, nat_le}
-use Rattle.std.specs.List.{AllByRecursion as All}
+use Rattle.std.specs.List.{AllByRecursion}
 use Rattle.std.specs.Int.Digits.{number_from_digits}
 use Rattle.images.specs.declared.header.Header.{Header}
 
@@ -26,10 +26,10 @@ pub record Field (s : List ℕ) (n : ℕ) (t : List ℕ) : Type 0 where
   pub digits : List ℕ
   pub spelling : s ≡ gap ++ (digits ++ t)
   pub some_gap : 1 ≤ length gap
-  pub all_white : All (λ b. white b ≡ true) gap
+  pub all_white : AllByRecursion (λ b. white b ≡ true) gap
   pub some_digits : 1 ≤ length digits
   pub few_digits : length digits ≤ most_digits
-  pub all_digits : All (λ b. digit b ≡ true) digits
+  pub all_digits : AllByRecursion (λ b. digit b ≡ true) digits
   pub value : decimal digits ≡ n
 
 -- bs begins with the two bytes `P5`, and s follows

@@ -1,9 +1,9 @@
 // The reading of an image: its header, its length, its samples.
 ghost use Rattle.std.specs.Prelude.{◌≡◌, ◌+◌, ◌*◌, ◌≤◌, length, IfSome, IfOk, ◌==◌};
-ghost use Rattle.images.specs.Header.{decimal as decimalOf, most_digits};
+ghost use Rattle.images.specs.Header.{decimal as decimal_of, most_digits};
 ghost use Rattle.images.specs.Samples.{wide as is_wide, sample_bytes, sample_at};
 ghost use Rattle.images.specs.Fits.{Fits};
-ghost use Rattle.images.specs.Reading.{belongs, run_end, field_at, header_of, in_range, highest as highest_of, checked as checkedOf, surveyed};
+ghost use Rattle.images.specs.Reading.{belongs, run_end, field_at, header_of, in_range, highest as highest_of, checked as checked_of, surveyed};
 
 use crate::header::{Header, Layout};
 use crate::refusal::ImageRefusal;
@@ -47,7 +47,7 @@ fn run_end(bytes: &[u8], at: usize, class: Class) -> usize
 // The number that a few digits write.
 fn decimal(digits: &[u8]) -> u32
     requires { length digits.now ≤ most_digits }
-    ensures { result ≡ decimalOf digits.now }
+    ensures { result ≡ decimal_of digits.now }
 {
     let mut sum = 0u32;
     for d in digits {
@@ -151,7 +151,7 @@ fn has_length(raster: &[u8], expected: usize) -> bool
 fn checked(bytes: &[u8], layout: Layout) -> Result<Layout, ImageRefusal>
     requires { layout.start ≤ length bytes.now }
     ensures fits { IfOk result (λ l. Fits l bytes.now) }
-    ensures value { result ≡ checkedOf bytes.now layout }
+    ensures value { result ≡ checked_of bytes.now layout }
 {
     let header = layout.header;
     if !in_range(header) {

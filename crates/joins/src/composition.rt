@@ -1,7 +1,7 @@
 // One form after another.
 ghost use Rattle.std.specs.Prelude.{◌≡◌, ℕ, ◌<◌, true, map};
 ghost use Rattle.forms.specs.Sets.{Has, cells, movable, moved};
-ghost use Rattle.forms.specs.Terms.{used as usedBy};
+ghost use Rattle.forms.specs.Terms.{used as used_by};
 ghost use Rattle.forms.specs.Entering.{made};
 ghost use Rattle.forms.specs.Parts.{terms_of, outcome};
 ghost use Rattle.joins.specs.Joins.{all_at, stays_all, compose as composed};
@@ -48,7 +48,7 @@ fn stays(e: &Form, f: &Form) -> bool
 
 // The form moved to each cell of a term, joined by min.
 fn at_term(f: &Form, term: Term) -> Result<Form, Fault>
-    requires { (c : ℕ) → c < 63 → Has term.bits c → movable c (usedBy (terms_of f.now)) ≡ true }
+    requires { (c : ℕ) → c < 63 → Has term.bits c → movable c (used_by (terms_of f.now)) ≡ true }
     ensures { outcome result ≡ all_at (terms_of f.now) (cells term.bits) }
 {
     let first = term.first_cell();
@@ -64,7 +64,7 @@ fn at_term(f: &Form, term: Term) -> Result<Form, Fault>
 
 // The form moved to a cell at which it stays in the window.
 fn moved_to(f: &Form, cell: Cell) -> Result<Form, Fault>
-    requires { movable cell.number (usedBy (terms_of f.now)) ≡ true }
+    requires { movable cell.number (used_by (terms_of f.now)) ≡ true }
     ensures { outcome result ≡ made (map (moved cell.number) (terms_of f.now)) }
 {
     f.moved(cell).ok_or(Fault::OutsideWindow)

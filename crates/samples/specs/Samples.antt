@@ -2,7 +2,7 @@
 use Rattle.std.specs.Prelude.{ℕ, ◌*◌, Bool, List, [], ◌∷◌, ◌++◌, map, replicate, ℤ, ◌-ℤ◌}
 use Rattle.elements.specs.Order.{lesser, greater}
 use Rattle.forms.specs.Window.{row_of, column_of}
-use Rattle.values.specs.Value.{least_of, greatest_of, over as overList}
+use Rattle.values.specs.Value.{least_of, greatest_of, over as over_list}
 use Rattle.values.specs.Laws.{seen}
 use Rattle.filters.specs.Boxes.{box}
 use Rattle.filters.specs.Basic.{Weighed, middle}
@@ -25,11 +25,11 @@ repeated (x ∷ xs) = replicate x.times x.cell ++ repeated xs
 module _ {E : Type 0} (most : E → E → Bool) where
   -- the least element at the place plus a cell of the box
   unfoldable pub eroded : ℕ → ℕ → (ℤ → ℤ → E) → ℤ → ℤ → E
-  eroded h w x r c = overList (x r c) (least_of most (seen x r c)) (box h w)
+  eroded h w x r c = over_list (x r c) (least_of most (seen x r c)) (box h w)
 
   -- the greatest element at the place minus a cell of the box
   unfoldable pub dilated : ℕ → ℕ → (ℤ → ℤ → E) → ℤ → ℤ → E
-  dilated h w x r c = overList (x r c) (greatest_of most (against x r c)) (box h w)
+  dilated h w x r c = over_list (x r c) (greatest_of most (against x r c)) (box h w)
 
   abbrev pub opened : ℕ → ℕ → (ℤ → ℤ → E) → ℤ → ℤ → E
   opened h w x = dilated h w (eroded h w x)

@@ -1,7 +1,7 @@
 // How far a source can be read: its sides and its margin.
 ghost use Rattle.std.specs.Prelude.{◌≡◌, ℕ, ◌<◌, pos, ◌+ℤ◌, Decides};
 ghost use Rattle.sources.specs.Meaning.{Within, PlaceWithin, RowWithin};
-ghost use Rattle.sources.specs.Edges.{nearest as nearestPlace};
+ghost use Rattle.sources.specs.Edges.{nearest as nearest_place};
 
 /// The sides and the margin of a source.
 #[derive(Clone, Copy, PartialEq, Eq, Debug)]
@@ -60,7 +60,7 @@ fn spans(side: u32, margin: i32, first: i32, count: usize) -> bool
 
 /// The place along a side that is nearest to `at`: 0 before it, the last past its end.
 pub fn nearest(side: u32, at: i32) -> u32
-    ensures { result ≡ nearestPlace side at }
+    ensures { result ≡ nearest_place side at }
 {
     if at < 0 {
         return 0;

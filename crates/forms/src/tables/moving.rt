@@ -2,7 +2,7 @@
 ghost use Rattle.std.specs.Prelude.{◌≡◌, ℕ, ◌+◌, ◌^◌, ◌<◌, true, Decides};
 ghost use Rattle.forms.specs.Window.{stays};
 ghost use Rattle.forms.specs.Sets.{Has, movable, moved};
-ghost use Rattle.forms.specs.Terms.{Uses, used as usedBy};
+ghost use Rattle.forms.specs.Terms.{Uses, used as used_by};
 ghost use Rattle.forms.specs.Parts.{terms_of, Moved, MovedTruth};
 
 use super::{Form, MOST_TERMS, Table};
@@ -12,7 +12,7 @@ use crate::window::Cell;
 impl Form {
     /// The cells that the form uses: those of all its terms.
     pub fn used(&self) -> Term
-        ensures value { result.bits ≡ usedBy (terms_of self.now) }
+        ensures value { result.bits ≡ used_by (terms_of self.now) }
         ensures cells { (c : ℕ) → (Has result.bits c → Uses (terms_of self.now) c) × (Uses (terms_of self.now) c → Has result.bits c) }
     {
         let mut all = 0;
@@ -24,7 +24,7 @@ impl Form {
 
     /// Whether every cell that the form uses, plus a cell, is a cell of the window.
     pub fn stays_at(&self, to: Cell) -> bool
-        ensures exact { result ≡ movable to.number (usedBy (terms_of self.now)) }
+        ensures exact { result ≡ movable to.number (used_by (terms_of self.now)) }
         ensures window { Decides result ((c : ℕ) → c < 63 → Uses (terms_of self.now) c → stays to.number c ≡ true) }
     {
         let used = self.used();

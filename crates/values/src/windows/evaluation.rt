@@ -2,7 +2,7 @@
 ghost use Rattle.std.specs.Prelude.{◌≡◌, ◌^◌, ◌<◌};
 ghost use Rattle.elements.specs.Order.{greater};
 ghost use Rattle.forms.specs.Parts.{terms_of};
-ghost use Rattle.values.specs.Value.{least as leastIn, value as value_of};
+ghost use Rattle.values.specs.Value.{least as least_in, value as value_of};
 ghost use Rattle.values.specs.Walks.{Taken};
 ghost use Rattle.values.specs.Windows.{element_at};
 ghost use Rattle.values.specs.Laws.{Whole, Levels, MaxLaw, MinLaw, AfterLaw};
@@ -32,7 +32,7 @@ pub fn value<E: Order>(form: &Form, window: &Window<E>) -> E
 
 // The least element among the cells of a term.
 fn lowest<E: Order>(window: &Window<E>, term: Term) -> E
-    ensures { (d : E) → result ≡ leastIn E.Order.most (element_at window.now d) term.bits }
+    ensures { (d : E) → result ≡ least_in E.Order.most (element_at window.now d) term.bits }
 {
     let mut rest = term.number();
     let mut low = window.all[pop(&mut rest)];
@@ -45,7 +45,7 @@ fn lowest<E: Order>(window: &Window<E>, term: Term) -> E
 // The greater of `high` and the least element among the cells of a term.
 // A term that has an element at most `high` does not raise it, and is left there.
 fn raised<E: Order>(window: &Window<E>, term: Term, high: E) -> E
-    ensures { (d : E) → result ≡ greater E.Order.most high (leastIn E.Order.most (element_at window.now d) term.bits) }
+    ensures { (d : E) → result ≡ greater E.Order.most high (least_in E.Order.most (element_at window.now d) term.bits) }
 {
     let mut rest = term.number();
     let mut low = window.all[pop(&mut rest)];
