@@ -36,7 +36,7 @@ CHOSEN = {
 # is hidden.
 MIRRORED = {"big_endian", "bytes_for", "field_bit", "in_box", "is_sign", "run_end", "sample_bytes", "term_start", "told_apart"}
 
-TOKEN = re.compile(r"[^\s(){}\[\],;.:=|\"«»λ⌜⌝∥]+")
+TOKEN = re.compile(r"[^\s(){}\[\],;.:=|\"`«»λ⌜⌝∥]+")
 DECLARED = re.compile(r"^\s*(?:(?:pub|abbrev|unfoldable|data|record|ruleset)\s+)*([^\s(){}\[\]:,;=.|λ\"]+)\s*(?:\{[^}]*\}\s*|\([^)]*\)\s*)*:(?!=)")
 
 

@@ -3,6 +3,7 @@
 
 use anyhow::anyhow;
 use std::env;
+use std::io::ErrorKind;
 use std::process::ExitCode;
 
 mod compile;
@@ -41,10 +42,14 @@ examples: polwenog same 'open(2,1)' 'after(dilate(2,1),erode(2,1))'
           polwenog inspect section-014.pgm rig-2.log";
 
 fn run(rt: &HostRuntime) -> anyhow::Result<()> {
-    let Ok(mut words) = env::args(rt) else {
-        return Err(anyhow!(
-            "an argument is no UTF-8 text; other bytes can stand in a line of standard input"
-        ));
+    let mut words = match env::args(rt) {
+        Ok(words) => words,
+        Err(e) if e.kind() == ErrorKind::InvalidData => {
+            return Err(anyhow!(
+                "an argument is no UTF-8 text; other bytes can stand in a line of standard input"
+            ));
+        }
+        Err(e) => return Err(e.into()),
     };
     let _ = words.next();
     let Some(command) = words.next() else {

@@ -2,7 +2,7 @@
 ghost use Rattle.std.specs.Prelude.{◌≡◌, ◌+◌, ◌*◌, ◌<◌, Ok, Err};
 ghost use Rattle.images.specs.Samples.{pixel, sample_at, wide};
 ghost use Rattle.images.specs.Parsed.{header as header_of, raster, shown, ImageOutcome};
-ghost use Rattle.std.proofs.Common.{rules, arith};
+ghost use Rattle.std.proofs.Common.{rules};
 
 use crate::declined::Declined;
 use crate::header::Header;
@@ -51,7 +51,7 @@ impl Source for Image {
 
     ghost meaning = { shown };
 
-    ghost ranges = { first_of (Prim.search rules, Prim.grind (arith, Self.row.coded.inj)) };
+    ghost ranges = { Prim.search rules };
 
     fn height(&self) -> u32 {
         self.header().height

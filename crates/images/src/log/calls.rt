@@ -2,7 +2,7 @@
 ghost use Rattle.std.specs.Prelude.{◌≡◌, ◌+◌, ◌*◌, ◌^◌, ◌<◌, ◌≤◌, length, Ok, Err};
 ghost use Rattle.images.specs.Records.{big_endian, event_at, record_bytes};
 ghost use Rattle.images.specs.Parsed.{events, LogOutcome};
-ghost use Rattle.std.proofs.Common.{rules, arith};
+ghost use Rattle.std.proofs.Common.{rules};
 
 use crate::EDGE_MARGIN;
 use crate::declined::Declined;
@@ -70,7 +70,7 @@ impl Source for Log {
 
     ghost meaning = { events };
 
-    ghost ranges = { first_of (Prim.search rules, Prim.grind (arith, Self.row.coded.inj)) };
+    ghost ranges = { Prim.search rules };
 
     fn height(&self) -> u32 {
         self.count
