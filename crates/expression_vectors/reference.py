@@ -1,9 +1,9 @@
 #!/usr/bin/env python3
-"""A second compiler of filter expressions, written from the rules alone and sharing nothing with the proved one.
+"""A second compiler of filter expressions, written from docs/EXPRESSIONS.md alone and sharing nothing with the proved one.
 
     python3 reference.py <stdin            for each line, `accepted TERMS BYTES` or `refused NUMBER at PLACE (PART)`
     python3 reference.py --why <stdin      the same with the words of each refusal: the expected output of the table
-    python3 reference.py --check           the worked examples of the rules, and forms compared with samples
+    python3 reference.py --check           the worked examples, and forms compared with samples
 
 A line is any bytes but a newline. Bytes are printed in hexadecimal. A form here is a sorted list of numbers of 63 bits.
 """

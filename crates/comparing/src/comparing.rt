@@ -12,7 +12,8 @@ use forms::Form;
 
 /// Compares two texts: they ask for the same samples at every place of every source, or a witness made of
 /// `low` and `high` shows where they differ, if `low` and `high` do. Declined where a text is not accepted, the
-/// left one first. Of every opening and closing it also says that it moves no sample.
+/// left one first. Of every opening it also says that it is at most the source, of every closing that it is at
+/// least the source, and of both that twice is once.
 pub fn compare<K: Order>(
     left: &[u8],
     right: &[u8],

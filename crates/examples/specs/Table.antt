@@ -1,5 +1,5 @@
 -- Worked examples of expressions, as one table.
-use Rattle.std.specs.Prelude.{◌≡◌, List, [], ◌∷◌, map, ℕ, suc, codes, leb, ℤ, pos, length, get_or}
+use Rattle.std.specs.Prelude.{◌≡◌, List, [], ◌∷◌, map, ℕ, suc, codes, nat_le, ℤ, pos, length, slice_index}
 use Prim.Native.String.{String}
 use Rattle.sources.specs.Edges.{nearest}
 use Rattle.forms.specs.Sets.{set_of}
@@ -45,7 +45,7 @@ table =
 
 -- a column of numbers as a plane whose edges are repeated
 abbrev pub column : List ℕ → ℤ → ℤ → ℕ
-column xs r c = get_or xs (nearest (length xs) r) 0
+column xs r c = slice_index xs (nearest (length xs) r)
 
 abbrev pub rows_of : ℕ → List ℕ → List ℕ
 rows_of n [] = []
@@ -53,10 +53,10 @@ rows_of n (x ∷ xs) = n ∷ rows_of (suc n) xs
 
 -- in the rows of a column: the samples that a text asks for, and the values of its form
 abbrev pub samples_of : String → List ℕ → Out (List ℕ)
-samples_of text xs = bind (parse (codes text)) (λ e. ok (map (λ n. sample leb e (column xs) (pos n) (pos 0)) (rows_of 0 xs)))
+samples_of text xs = bind (parse (codes text)) (λ e. ok (map (λ n. sample nat_le e (column xs) (pos n) (pos 0)) (rows_of 0 xs)))
 
 abbrev pub values_of : String → List ℕ → Out (List ℕ)
-values_of text xs = bind (compile (codes text)) (λ f. ok (map (λ n. value_at leb (column xs) f (pos n) (pos 0)) (rows_of 0 xs)))
+values_of text xs = bind (compile (codes text)) (λ f. ok (map (λ n. value_at nat_le (column xs) f (pos n) (pos 0)) (rows_of 0 xs)))
 
 -- what the text's compiling, or its samples, give, and what they should
 abbrev pub given : String → Says → Out (List ℕ)
