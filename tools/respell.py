@@ -5,8 +5,8 @@ and modules in camel case.
 usage: python3 tools/respell.py          at the top of the repository, once, after the kit's port.py
 
 A word is what a file of specs/ or proofs/ declares with a small first letter: a definition, a lemma, a field, a
-constructor; or what an import calls one. Goals, steps and functions of src/ keep their names. The script stops, and writes nothing, where two names
-would fall together.
+constructor; or what an import calls one. Goals, steps and functions of src/ keep their names. The script stops, and
+writes nothing, where two names would fall together.
 """
 
 import glob
