@@ -1,7 +1,7 @@
 -- The frame of a witness, and the values of forms in its middle.
 use Rattle.std.proofs.Common.{◌≡◌, ℕ, ◌+◌, ◌*◌, Bool, pos, sym, ap₂, arith}
 use Rattle.sources.specs.Edges.{nearest}
-use Rattle.forms.specs.declared.tables.Form.{Form}
+use Rattle.forms.specs.declared.form.Form.{Form}
 use Rattle.forms.specs.Terms.{True}
 use Rattle.forms.specs.Parts.{terms_of}
 use Rattle.values.specs.Value.{Ordered, marked}

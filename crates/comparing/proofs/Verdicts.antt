@@ -1,7 +1,7 @@
 -- What two accepted texts have in common, or are told apart by.
 use Rattle.std.proofs.Common.{◌≡◌, ℕ, ◌+◌, ◌*◌, Bool, List, Some, None, Err, Option, Result, sym, ap, ◌∙◌, subst, ap₂}
 use Rattle.elements.specs.Order.{lesser, greater}
-use Rattle.forms.specs.declared.tables.Form.{Form}
+use Rattle.forms.specs.declared.form.Form.{Form}
 use Rattle.forms.specs.Parts.{terms_of}
 use Rattle.stored.specs.Outcomes.{bytes_of}
 use Rattle.stored.proofs.Answering.{form_same}

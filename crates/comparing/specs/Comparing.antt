@@ -1,7 +1,7 @@
 -- What the comparison of two texts tells.
 use Rattle.std.specs.Prelude.{◌≡◌, ℕ, Bool, ◌⊎◌, List, Some, None, Ok, Err, Option, Result, ◌≢◌, slice_index}
 use Rattle.elements.specs.Order.{lesser, greater}
-use Rattle.forms.specs.declared.tables.Form.{Form}
+use Rattle.forms.specs.declared.form.Form.{Form}
 use Rattle.forms.specs.Parts.{terms_of}
 use Rattle.forms.specs.Truth.{OnlyFirst, telling}
 use Rattle.stored.specs.Outcomes.{bytes_of}

@@ -1,6 +1,6 @@
 -- What compiling and its parts answer, against the definitions.
 use Rattle.std.specs.Prelude.{◌≡◌, ℕ, Bool, true, false, ◌&&◌, List, length, Some, None, Ok, Err, Option, Result, nat_le}
-use Rattle.forms.specs.declared.tables.Form.{Form}
+use Rattle.forms.specs.declared.form.Form.{Form}
 use Rattle.forms.specs.Faults.{fault_number}
 use Rattle.forms.specs.Parts.{terms_of}
 use Rattle.letters.specs.Scanning.{tokens_at}

@@ -1,7 +1,7 @@
 -- The laws of openings and closings.
 use Rattle.std.proofs.Common.{◌≡◌, ℕ, List, ℤ, ◌+ℤ◌, ◌-ℤ◌, neg_ℤ, Ok, Err, Result, sym, ap, ◌∙◌, subst, arith}
 use Rattle.std.proofs.lemmas.Int.{ints}
-use Rattle.forms.specs.declared.tables.Form.{Form}
+use Rattle.forms.specs.declared.form.Form.{Form}
 use Rattle.forms.specs.declared.faults.Fault.{Fault}
 use Rattle.forms.specs.Window.{row_of, column_of}
 use Rattle.forms.specs.Terms.{In}

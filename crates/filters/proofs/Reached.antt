@@ -3,7 +3,7 @@ use Rattle.std.proofs.Common.{◌≡◌, ℕ, zero, suc, ◌+◌, ◌-◌, ◌*�
 use lib.Bits.{bit_or, or_zero_r}
 use Rattle.std.proofs.lemmas.Bool.{and_from, and_right, le-leb, lt-leb}
 use Rattle.std.proofs.lemmas.List.{map-append, map-id, drop_all}
-use Rattle.forms.specs.declared.tables.Form.{Form}
+use Rattle.forms.specs.declared.form.Form.{Form}
 use Rattle.forms.specs.Window.{row_of, column_of}
 use Rattle.forms.specs.Sets.{single}
 use Rattle.forms.specs.Entering.{Made, made, declined, bounded, enter}

@@ -1,6 +1,6 @@
 -- Where the basic filters are true, and the laws of openings and closings, at any place and on any places.
 use Rattle.std.specs.Prelude.{◌≡◌, ℕ, ◌≤◌, Bool, true, List, ℤ, ◌+ℤ◌, ◌-ℤ◌, Some, None, Option}
-use Rattle.forms.specs.declared.tables.Form.{Form}
+use Rattle.forms.specs.declared.form.Form.{Form}
 use Rattle.forms.specs.Window.{row_of, column_of}
 use Rattle.forms.specs.Terms.{In, TrueOn}
 use Rattle.forms.specs.Places.{Picks, TrueAt}

@@ -1,6 +1,6 @@
 -- The forms of weighted ranks, ranks and medians, and where there are none.
 use Rattle.std.specs.Prelude.{◌≡◌, ℕ, ◌*◌, ◌%◌, ◌<◌, ◌≤◌, true, false, ◌⊎◌, List, Some, None, Option}
-use Rattle.forms.specs.declared.tables.Form.{Form}
+use Rattle.forms.specs.declared.form.Form.{Form}
 use Rattle.forms.specs.Entering.{made}
 use Rattle.forms.specs.Parts.{terms_of}
 use Rattle.filters.specs.Basic.{Weighed, total, weight_of, rank_of, rank_rule, middle, most_cells}

@@ -1,9 +1,9 @@
 -- The bits of sets of cells, and the order that `inside` is.
-use Rattle.std.proofs.Common.{◌≡◌, ℕ, zero, suc, ◌+◌, ◌-◌, ◌/◌, ◌%◌, ◌^◌, ◌<◌, ◌≤◌, min, max, ◌⊎◌, sym, refl, ap, ◌∙◌, subst, inl, inr, one-mul, pow-suc, arith}
+use Rattle.std.proofs.Common.{◌≡◌, ℕ, zero, suc, ◌+◌, ◌-◌, ◌/◌, ◌%◌, ◌^◌, ◌<◌, ◌≤◌, min, max, eqb, IsTrue, ◌⊎◌, sym, refl, ap, ◌∙◌, subst, inl, inr, one-mul, pow-suc, arith}
 use native.Mathlib.Nat.{div-eq_of_lt}
-use lib.Bits.{bit_and, bit_or, and_step, or_step, and_self, and_comm, shifted_even, or_lt, or_add_and}
+use lib.Bits.{bit_and, bit_or, and_mask, and_step, or_step, and_self, and_comm, shifted_even, or_lt, or_add_and}
 use Rattle.std.proofs.lemmas.Nat.{and_shr, or_shr, and_le_l, and_le_r, shr-shr, shl-shr, pow-add, pow_below, pow_pos}
-use Rattle.std.proofs.lemmas.Bool.{cases_order}
+use Rattle.std.proofs.lemmas.Bool.{cases_order, eqb-true, eq-eqb}
 use Rattle.forms.specs.Sets.{bit, Has, Sub, CellByCell, single}
 
 pub bit_lt : (a k : ℕ) → bit a k < 2
@@ -73,7 +73,7 @@ pub sub_le : (a b : ℕ) → Sub a b → a ≤ b
 sub_le a b p = omega (arith, and_le_r a b)
 
 -- ---- the set of one cell, and sets that are put together
-power_other : (k j : ℕ) → (k < j) ⊎ (j < k) → bit (2 ^ k) j ≡ 0
+pub power_other : (k j : ℕ) → (k < j) ⊎ (j < k) → bit (2 ^ k) j ≡ 0
 power_other k j (inl h) = ap (λ (x : ℕ). x % 2) (div-eq_of_lt (pow_below k j h))
 power_other k j (inr h) =
     let e : suc (k - j - 1) + j ≡ k = omega arith in
@@ -118,3 +118,7 @@ or_some t u p = omega (arith, or_add_and t u, and_le_r t u)
 
 pub or_small : (t u : ℕ) → t < 2 ^ 63 → u < 2 ^ 63 → bit_or t u < 2 ^ 63
 or_small t u p q = or_lt 63 t u p q
+
+-- the test of the bit of a cell
+pub has_test : (s n : ℕ) → (IsTrue (eqb (bit_and (s / 2 ^ (62 - n)) 1) 1) → Has s n) × (Has s n → IsTrue (eqb (bit_and (s / 2 ^ (62 - n)) 1) 1))
+has_test s n = ((λ e. sym (and_mask (s / 2 ^ (62 - n)) 1) ∙ eqb-true _ 1 e), λ h. eq-eqb _ 1 (and_mask (s / 2 ^ (62 - n)) 1 ∙ h))

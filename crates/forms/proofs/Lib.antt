@@ -1,6 +1,8 @@
 pub mod Bits
 pub mod Forms
 pub mod Entered
+pub mod Firsts
+pub mod Placed
 pub mod Left
 pub mod Laws
 pub mod Whole

@@ -67,11 +67,11 @@ pub cells_whole : (t : ℕ) → cells t ≡ cells_below (63 - 0) t
 unfolding cells
 cells_whole t = refl
 
-below_suc : (n t : ℕ) → cells_below (suc n) t ≡ only_if (eqb (bit t n) 1) (62 - n) (cells_below n t)
+pub below_suc : (n t : ℕ) → cells_below (suc n) t ≡ only_if (eqb (bit t n) 1) (62 - n) (cells_below n t)
 unfolding cells_below
 below_suc n t = refl
 
-below_zero : (t : ℕ) → cells_below 0 t ≡ []
+pub below_zero : (t : ℕ) → cells_below 0 t ≡ []
 unfolding cells_below
 below_zero t = refl
 

@@ -1,5 +1,6 @@
 -- Entering a term: what is left are the minimal sets among the terms before and the new one.
-use Rattle.std.specs.Prelude.{◌≡◌, ℕ, Bool, false, cond, ◌||◌, List, [], ◌∷◌, length, ◌==◌, nat_le, nat_lt}
+use Rattle.std.specs.Prelude.{◌≡◌, ℕ, Bool, cond, List, [], ◌∷◌, length, ◌==◌, nat_le, nat_lt}
+use Rattle.std.specs.List.{list_any}
 use Rattle.forms.specs.Sets.{Sub, sub}
 use Rattle.forms.specs.Terms.{most_terms, In, Ascending}
 
@@ -12,13 +13,11 @@ pub record Minimal (ts f : List ℕ) : Type 0 where
 
 -- t is one of the terms of f
 abbrev pub holds : List ℕ → ℕ → Bool
-holds [] t = false
-holds (u ∷ us) t = u == t || holds us t
+holds f t = list_any (λ u. u == t) f
 
 -- some term of f is inside the set s
 abbrev pub covers : List ℕ → ℕ → Bool
-covers [] s = false
-covers (t ∷ ts) s = sub t s || covers ts s
+covers f s = list_any (λ t. sub t s) f
 
 -- the terms that do not contain t
 abbrev pub without : ℕ → List ℕ → List ℕ

@@ -1,8 +1,9 @@
 -- The terms of a form, and what a call answers about one.
-use Rattle.std.specs.Prelude.{◌≡◌, ℕ, ◌<◌, Bool, true, false, ◌⊎◌, List, [], ◌∷◌, map, length, take, ℤ, ◌+ℤ◌, Some, None, Ok, Err, Option, Result}
+use Rattle.std.specs.Prelude.{◌≡◌, ℕ, ◌<◌, Bool, true, false, ◌⊎◌, List, [], ◌∷◌, map, length, ℤ, ◌+ℤ◌, Some, None, Ok, Err, Option, Result}
 use Rattle.forms.specs.declared.faults.Fault.{Fault}
 use Rattle.forms.specs.declared.sets.Term.{Term}
-use Rattle.forms.specs.declared.tables.Form.{Form}
+use Rattle.forms.specs.declared.form.Form.{Form}
+use Rattle.tables.specs.Table.{items_of}
 use Rattle.forms.specs.Window.{row_of, column_of}
 use Rattle.forms.specs.Sets.{movable, moved}
 use Rattle.forms.specs.Terms.{most_terms, used}
@@ -12,7 +13,7 @@ use Rattle.forms.specs.Truth.{OnlyFirst}
 use Rattle.forms.specs.Faults.{fault_number}
 
 abbrev pub terms_of : Form → List ℕ
-terms_of f = take f.table.count f.table.terms
+terms_of f = items_of f.table
 
 -- what a call that changes a form in place tells: its answer, and the terms then
 abbrev pub told : Result (Unit {0}) Fault → List ℕ → Made
@@ -26,7 +27,7 @@ outcome (Err e) = declined (fault_number e)
 
 -- the list of the term that an answer holds, if any
 abbrev pub listed : Option Term → List ℕ
-listed (Some t) = t.bits ∷ []
+listed (Some t) = t ∷ []
 listed None = []
 
 -- t entered into f leaves g, the minimal sets; it is declined where these are too many
@@ -36,7 +37,7 @@ Entered (Err _) t f g = (h : List ℕ) × Minimal (t ∷ f) h × (most_terms < l
 
 -- on the term that an answer holds, exactly one of f and g is true; where it holds none, they are the same
 abbrev pub Separates : Option Term → List ℕ → List ℕ → Type 0
-Separates (Some t) f g = OnlyFirst f g t.bits ⊎ OnlyFirst g f t.bits
+Separates (Some t) f g = OnlyFirst f g t ⊎ OnlyFirst g f t
 Separates None f g = f ≡ g
 
 -- f moved to the cell c, each of its terms by rows and by columns, where it stays in the window

@@ -1,5 +1,6 @@
 -- Sets of cells as numbers below 2 ^ 63: cell 0 is the most significant of the 63 bits, cell 62 the least.
-use Rattle.std.specs.Prelude.{◌≡◌, ℕ, zero, suc, ◌-◌, ◌/◌, ◌%◌, ◌^◌, ◌<◌, Bool, true, false, ◌&&◌, List, [], ◌∷◌, map, ◌==◌, bit_and, bit_or}
+use Rattle.std.specs.Prelude.{◌≡◌, ℕ, zero, suc, ◌-◌, ◌/◌, ◌%◌, ◌^◌, ◌<◌, Bool, true, false, List, [], ◌∷◌, map, ◌==◌, bit_and, bit_or}
+use Rattle.std.specs.List.{list_all}
 use Rattle.forms.specs.Window.{stays, added}
 
 -- bit k of a
@@ -47,8 +48,7 @@ set_of [] = 0
 set_of (c ∷ cs) = bit_or (single c) (set_of cs)
 
 abbrev pub every : (ℕ → Bool) → List ℕ → Bool
-every p [] = true
-every p (c ∷ cs) = p c && every p cs
+every p cs = list_all p cs
 
 -- whether the set s, moved to the cell c (the middle cell goes to c), stays in the window, and what it becomes
 abbrev pub movable : ℕ → ℕ → Bool

@@ -1,5 +1,5 @@
 -- Terms and forms: a form is a list of terms, and a term is a non-empty set of cells.
-use Rattle.std.specs.Prelude.{◌≡◌, ℕ, ◌^◌, ◌<◌, ◌⊎◌, List, [], ◌∷◌, bit_or}
+use Rattle.std.specs.Prelude.{◌≡◌, ℕ, ◌^◌, ◌<◌, ◌⊎◌, List, [], ◌∷◌, bit_or, fold}
 use Rattle.forms.specs.Sets.{Has, Sub}
 
 -- the most terms that a form may have
@@ -36,8 +36,7 @@ TrueOn f P = (t : ℕ) × In t f × Inside t P
 
 -- the cells that the terms of f use
 abbrev pub used_from : ℕ → List ℕ → ℕ
-used_from s [] = s
-used_from s (t ∷ ts) = used_from (bit_or s t) ts
+used_from s f = fold bit_or s f
 
 abbrev pub used : List ℕ → ℕ
 used f = used_from 0 f

@@ -3,14 +3,15 @@ ghost use Rattle.std.specs.Prelude.{◌≡◌};
 ghost use Rattle.forms.specs.Faults.{fault_number};
 
 use std::fmt;
+use tables::Full;
 
 /// Why a form was not made.
 #[derive(Clone, Copy, PartialEq, Eq, Debug)]
 pub enum Fault {
     /// A form may not have so many terms.
-    TooManyTerms,
+    TooManyTerms = 8,
     /// A cell plus a cell lies outside the window.
-    OutsideWindow,
+    OutsideWindow = 9,
 }
 
 impl Fault {
@@ -18,10 +19,17 @@ impl Fault {
     pub fn number(self) -> u8
         ensures { result ≡ fault_number self }
     {
-        match self {
-            Fault::TooManyTerms => 8,
-            Fault::OutsideWindow => 9,
-        }
+        self as u8
+    }
+}
+
+impl From<Full> for Fault {
+    ghost use Rattle.forms.specs.declared.faults.Fault.TheVariants.{TooManyTerms};
+
+    ghost from_gives = { λ _ r. r ≡ TooManyTerms };
+
+    fn from(_full: Full) -> Fault {
+        Fault::TooManyTerms
     }
 }
 

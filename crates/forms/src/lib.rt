@@ -2,11 +2,11 @@
 #![tactic(auto)]
 
 mod faults;
+mod form;
 mod sets;
-mod tables;
 mod window;
 
 pub use faults::Fault;
-pub use sets::{CellSet, Term};
-pub use tables::{Form, MOST_TERMS};
+pub use form::{Form, MOST_TERMS};
+pub use sets::{CellSet, Cells, Term};
 pub use window::Cell;

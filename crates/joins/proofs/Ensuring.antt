@@ -1,6 +1,6 @@
 -- Where the form that a join made is true.
 use Rattle.std.proofs.Common.{◌≡◌, ℕ, List, Ok, Err, Result, sym}
-use Rattle.forms.specs.declared.tables.Form.{Form}
+use Rattle.forms.specs.declared.form.Form.{Form}
 use Rattle.forms.specs.declared.faults.Fault.{Fault}
 use Rattle.forms.specs.Parts.{terms_of, outcome}
 use Rattle.joins.specs.Joins.{max_of, min_of}

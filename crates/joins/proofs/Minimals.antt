@@ -1,6 +1,6 @@
 -- What is entered in order leaves the minimal sets of all that was entered.
 use Rattle.std.proofs.Common.{◌≡◌, ℕ, ◌⊎◌, List, [], ◌∷◌, ◌++◌, Ok, Err, Result, sym, subst, inl, inr, append_assoc, append-nil}
-use Rattle.forms.specs.declared.tables.Form.{Form}
+use Rattle.forms.specs.declared.form.Form.{Form}
 use Rattle.forms.specs.declared.faults.Fault.{Fault}
 use Rattle.forms.specs.Sets.{Sub}
 use Rattle.forms.specs.Terms.{In, True}

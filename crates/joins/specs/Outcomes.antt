@@ -1,6 +1,6 @@
 -- Where joined forms are true, and which compositions leave the window.
 use Rattle.std.specs.Prelude.{◌≡◌, ℕ, ◌<◌, Bool, true, false, ◌⊎◌, List, ℤ, ◌+ℤ◌, Ok, Err, Result}
-use Rattle.forms.specs.declared.tables.Form.{Form}
+use Rattle.forms.specs.declared.form.Form.{Form}
 use Rattle.forms.specs.declared.faults.Fault.{Fault}
 use Rattle.forms.specs.declared.faults.Fault.TheVariants.{TooManyTerms, OutsideWindow}
 use Rattle.forms.specs.Window.{row_of, column_of, in_window}

@@ -1,6 +1,6 @@
 -- What saving and loading answer, by the numbers of their faults.
 use Rattle.std.specs.Prelude.{◌≡◌, ℕ, ◌<◌, ◌≤◌, List, ◌++◌, length, take, drop, Ok, Err, Result}
-use Rattle.forms.specs.declared.tables.Form.{Form}
+use Rattle.forms.specs.declared.form.Form.{Form}
 use Rattle.forms.specs.Parts.{terms_of}
 use Rattle.stored.specs.declared.faults.LoadFault.{LoadFault}
 use Rattle.stored.specs.declared.faults.LoadFault.TheVariants.{NotVersionOne, WrongLength, FillingNotZero, NotAscending, TermInsideAnother}

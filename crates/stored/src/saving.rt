@@ -1,6 +1,6 @@
 // Saving a form as bytes.
 ghost use Rattle.std.specs.Prelude.{◌≡◌, ℕ, ◌+◌, ◌*◌, ◌^◌, ◌<◌, ◌≤◌};
-ghost use Rattle.forms.specs.declared.tables.Form.{Form as AnyForm};
+ghost use Rattle.forms.specs.declared.form.Form.{Form as AnyForm};
 ghost use Rattle.forms.specs.Parts.{terms_of};
 ghost use Rattle.stored.specs.Packing.{field_bit, spelled};
 ghost use Rattle.stored.specs.Layout.{LoadsBack, stored_bit, count_bits, version};

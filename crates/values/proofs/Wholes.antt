@@ -1,7 +1,7 @@
 -- The terms of a form, and what joins make of them: there are some, and each is a set of cells that is not empty.
 use Rattle.std.proofs.Common.{◌≡◌, ℕ, ◌^◌, ◌<◌, List, [], ◌∷◌, map, length, pos, sym, refl, ap, subst, inl, inr, arith}
 use lib.Bits.{bit_or}
-use Rattle.forms.specs.declared.tables.Form.{Form}
+use Rattle.forms.specs.declared.form.Form.{Form}
 use Rattle.forms.specs.Sets.{cells, moved}
 use Rattle.forms.specs.Terms.{In, Terms, TrueOn}
 use Rattle.forms.specs.Entering.{enter, made, bounded}

@@ -3,7 +3,7 @@ use Rattle.std.specs.Prelude.{◌≡◌, ℕ, Bool, true, List, [], ℤ, ◌+ℤ
 use Rattle.elements.specs.Order.{lesser, greater}
 use Rattle.forms.specs.Window.{row_of, column_of}
 use Rattle.forms.specs.Terms.{Terms, TrueOn}
-use Rattle.forms.specs.declared.tables.Form.{Form}
+use Rattle.forms.specs.declared.form.Form.{Form}
 use Rattle.forms.specs.Parts.{terms_of}
 use Rattle.forms.specs.Entering.{made}
 use Rattle.joins.specs.Joins.{max_of, min_of, compose}

@@ -1,4 +1,4 @@
-use Rattle.std.proofs.Common.{◌≡◌, ℕ, ◌<◌, ◌⊎◌, sym, ap, subst, inl, inr}
+use Rattle.std.proofs.Common.{◌≡◌, ℕ, ◌<◌, ◌⊎◌, sym, refl, subst, inl, inr}
 use lib.Bits.{bit_or}
 use Rattle.forms.specs.Sets.{Has, single}
 use Rattle.forms.proofs.Bits.{has_or, or_small, has_single, single_has}
@@ -16,14 +16,8 @@ one_more s n c l m = ((λ h. to ((has_or s (single n) c).0 h)), from)
     from (inr e) = (has_or s (single n) c).1 (inr (subst (λ (y : ℕ). Has (single n) y) (sym e) (has_single n)))
 
 pub invariant_of-result : goal.invariant_of-result
-invariant_of-result c = record { fits = or_small c.args.self.bits c.mask.result c.args.self.fits c.mask.ensures.fits }
+invariant_of-result c = or_small c.self.inside.bits c.mask.result c.self.invariant c.mask.ensures.fits
 
 pub returns : goal.returns
 returns c =
-    let s : ℕ = c.args.self.bits in
-    let n : ℕ = c.args.cell.number in
-    let e = c.mask.ensures.value in
-    record {
-      value = ap (bit_or s) e;
-      cells = λ k l. subst (λ (y : ℕ). (Has (bit_or s y) k → Has s k ⊎ (k ≡ n)) × (Has s k ⊎ (k ≡ n) → Has (bit_or s y) k)) (sym e) (one_more s n k c.args.cell.within l);
-    }
+    rw (c.mask.ensures.value, c.self.view_is) record { value = refl; cells = λ k l. one_more c.args.self c.args.cell k c.mask.ensures.cell l }

@@ -1,6 +1,6 @@
-use Rattle.std.proofs.Common.{sym, refl}
+use Rattle.std.proofs.Common.{sym, ◌∙◌}
 use Rattle.forms.proofs.Steps.{number_at_lem}
 use Rattle.forms.proofs.window.Cell.number.Goals as goal
 
-pub returns : goal.returns
-returns c = record { value = refl; bound = c.args.self.within; place = sym (number_at_lem c.args.self.number) }
+pub returns-clause-place : goal.returns-clause-place
+returns-clause-place c = c.self.view_is ∙ sym (number_at_lem c.args.self)
