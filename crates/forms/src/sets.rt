@@ -1,5 +1,5 @@
 // Sets of cells, and terms: sets that are not empty.
-ghost use Rattle.std.specs.Prelude.{◌≡◌, ℕ, ◌+◌, ◌^◌, ◌<◌, ◌≤◌, ◌⊎◌, ◌↔◌, [], ◌∷◌, IsTrue, IfSome, MatchOption, bit_or};
+ghost use Rattle.std.specs.Prelude.{◌≡◌, ◌≢◌, ℕ, ◌+◌, ◌^◌, ◌<◌, ◌≤◌, ◌⊎◌, ◌↔◌, [], ◌∷◌, IsTrue, IfSome, MatchOption, bit_or};
 ghost use Rattle.forms.specs.Sets.{Has, Sub, CellByCell, single, cells, cells_from};
 
 use crate::window::Cell;
@@ -175,7 +175,8 @@ impl Term {
 
     /// The term's cells, ascending; there is one at least.
     pub fn cells(self) -> Cells
-        ensures { result ≡ cells self }
+        ensures value { result ≡ cells self }
+        ensures some { cells self ≢ [] }
     {
         CellSet::from(self).cells()
     }

@@ -5,32 +5,19 @@ use Rattle.std.proofs.lemmas.Bool.{cond-true, cond-false}
 use Rattle.forms.specs.Sets.{Has, cells, cells_from, every, movable, moved}
 use Rattle.forms.specs.Terms.{In, used}
 use Rattle.forms.specs.Entering.{Made, made, declined}
-use Rattle.forms.proofs.Listed.{cells_in, every_in, uses_used}
+use Rattle.forms.proofs.Listed.{cells_in, in_cells, every_in, in_every, uses_used}
 use Rattle.joins.specs.Joins.{after, max_of, min_of, min_at, all_at, max_at, any_at, stays_all, compose}
 
--- ---- f moved to the cells from one number on
-module _ (f : List ℕ) (o : Made) (t from : ℕ) (h : List ℕ) (i : min_at f (cells_from from t) h ≡ o) where
-  module _ (k : ℕ) (q : cells_from from t ≡ k ∷ cells_from (k + 1) t) (g : List ℕ) (e : made g ≡ made (map (moved k) f)) (m : Made) (w : m ≡ min_of h g) where
-    at_cell_lem : after m (λ y. min_at f (cells_from (k + 1) t) y) ≡ o
-    at_cell_lem =
-        let d : g ≡ map (moved k) f = cc in
-        ap (λ (y : Made). after y (λ z. min_at f (cells_from (k + 1) t) z)) (w ∙ ap (min_of h) d)
-        ∙ ap (λ (y : List ℕ). min_at f y h) (sym q) ∙ i
+-- ---- f moved to the cells of a list
+module _ (f : List ℕ) (o : Made) (k : ℕ) (cs : List ℕ) (h : List ℕ) (i : min_at f (k ∷ cs) h ≡ o) (g : List ℕ) (e : g ≡ map (moved k) f) (m : Made) (w : m ≡ min_of h g) where
+  at_cell_lem : after m (λ y. min_at f cs y) ≡ o
+  at_cell_lem = ap (λ (y : Made). after y (λ z. min_at f cs z)) (w ∙ ap (min_of h) e) ∙ i
 
-    pub cell_more : (n : ℕ) → n ≡ k → (y : List ℕ) → m ≡ made y → min_at f (cells_from (n + 1) t) y ≡ o
-    cell_more n a y r = ap (λ (j : ℕ). min_at f (cells_from (j + 1) t) y) a ∙ ap (λ (x : Made). after x (λ z. min_at f (cells_from (k + 1) t) z)) (sym r) ∙ at_cell_lem
+  pub cell_more : (y : List ℕ) → m ≡ made y → min_at f cs y ≡ o
+  cell_more y r = ap (λ (x : Made). after x (λ z. min_at f cs z)) (sym r) ∙ at_cell_lem
 
-    pub cell_stop : (n : ℕ) → m ≡ declined n → declined n ≡ o
-    cell_stop n r = ap (λ (x : Made). after x (λ z. min_at f (cells_from (k + 1) t) z)) (sym r) ∙ at_cell_lem
-
-  pub cell_end : cells_from from t ≡ [] → made h ≡ o
-  cell_end q = ap (λ (y : List ℕ). min_at f y h) (sym q) ∙ i
-
-pub cell_start : (f : List ℕ) (t k n : ℕ) (g : List ℕ) → cells t ≡ k ∷ cells_from (k + 1) t → n ≡ k → made g ≡ made (map (moved k) f)
-    → min_at f (cells_from (n + 1) t) g ≡ all_at f (cells t)
-cell_start f t k n g q a e =
-    let d : g ≡ map (moved k) f = cc in
-    ap (λ (j : ℕ). min_at f (cells_from (j + 1) t) g) a ∙ ap (min_at f (cells_from (k + 1) t)) d ∙ sym (ap (all_at f) q)
+  pub cell_stop : (n : ℕ) → m ≡ declined n → declined n ≡ o
+  cell_stop n r = ap (λ (x : Made). after x (λ z. min_at f cs z)) (sym r) ∙ at_cell_lem
 
 -- ---- the terms of e
 module _ (f e : List ℕ) (o : Made) (j : ℕ) (acc : List ℕ) (i : max_at f (drop j e) acc ≡ o) where
@@ -80,23 +67,9 @@ pub stays_term : (e f : List ℕ) → stays_all e f ≡ true → (t : ℕ) → I
 unfolding stays_all
 stays_term e f s t m c l h = every_in (λ k. movable k (used f)) (cells (used e)) s c (cells_in (used e) c l (uses_used e c (t, m, h)))
 
-abbrev pub Staying : List ℕ → List ℕ → ℕ → ℕ → Type 0
-Staying e f u from = every (λ k. movable k (used f)) (cells_from from u) ≡ stays_all e f
+pub stays_cells : (e f : List ℕ) → stays_all e f ≡ true → (t : ℕ) → In t e → every (λ c. movable c (used f)) (cells t) ≡ true
+stays_cells e f s t m = in_every (λ c. movable c (used f)) (cells t) (λ c n. let p = in_cells t c n in stays_term e f s t m c p.0 p.1)
 
-module _ (e f : List ℕ) (u from : ℕ) (i : Staying e f u from) where
-  module _ (k : ℕ) (q : cells_from from u ≡ k ∷ cells_from (k + 1) u) (b : Bool) (w : b ≡ movable k (used f)) where
-    here : (b && every (λ k. movable k (used f)) (cells_from (k + 1) u)) ≡ stays_all e f
-    here = ap (λ (v : Bool). v && every (λ k. movable k (used f)) (cells_from (k + 1) u)) w ∙ ap (every (λ k. movable k (used f))) (sym q) ∙ i
-
-    pub staying_more : (n : ℕ) → n ≡ k → b ≡ true → Staying e f u (n + 1)
-    staying_more n a r = ap (λ (j : ℕ). every (λ k. movable k (used f)) (cells_from (j + 1) u)) a ∙ ap (λ (v : Bool). v && every (λ k. movable k (used f)) (cells_from (k + 1) u)) (sym r) ∙ here
-
-    pub staying_stop : b ≡ false → false ≡ stays_all e f
-    staying_stop r = ap (λ (v : Bool). v && every (λ k. movable k (used f)) (cells_from (k + 1) u)) (sym r) ∙ here
-
-  pub staying_end : cells_from from u ≡ [] → true ≡ stays_all e f
-  staying_end q = ap (every (λ k. movable k (used f))) (sym q) ∙ i
-
-pub staying_start : (e f : List ℕ) (u : ℕ) → u ≡ used e → cells u ≡ cells_from 0 u → Staying e f u 0
+pub staying : (e f : List ℕ) (u : ℕ) → u ≡ used e → every (λ k. movable k (used f)) (cells u) ≡ stays_all e f
 unfolding stays_all
-staying_start e f u d w = ap (every (λ k. movable k (used f))) (sym w) ∙ ap (λ (y : ℕ). every (λ k. movable k (used f)) (cells y)) d
+staying e f u d = ap (λ (y : ℕ). every (λ k. movable k (used f)) (cells y)) d

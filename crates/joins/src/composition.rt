@@ -1,10 +1,10 @@
 // One form after another.
-ghost use Rattle.std.specs.Prelude.{◌≡◌, ℕ, ◌<◌, true, map};
-ghost use Rattle.forms.specs.Sets.{Has, cells, movable, moved};
-ghost use Rattle.forms.specs.Terms.{used as used_by};
+ghost use Rattle.std.specs.Prelude.{◌≡◌, ℕ, true, ◌∷◌, map};
+ghost use Rattle.forms.specs.Sets.{cells, every, movable, moved};
+ghost use Rattle.forms.specs.Terms.{In, used as used_by};
 ghost use Rattle.forms.specs.Entering.{made};
 ghost use Rattle.forms.specs.Parts.{terms_of, outcome};
-ghost use Rattle.joins.specs.Joins.{all_at, stays_all, compose as composed};
+ghost use Rattle.joins.specs.Joins.{all_at, any_at, stays_all, compose as composed};
 ghost use Rattle.joins.specs.Outcomes.{Ensured, After, Outside};
 
 use super::{max, min};
@@ -21,12 +21,20 @@ pub fn compose(e: &Form, f: &Form) -> Result<Form, Fault>
     if !stays(e, f) {
         return Err(Fault::OutsideWindow);
     }
-    let mut joined = at_term(f, e.first())?;
-    let mut i = 1;
-    while let Some(term) = e.term(i) {
-        let next = at_term(f, term)?;
-        joined = max(&joined, &next)?;
-        i += 1;
+    let [first, others @ ..] = e.terms() else {
+        unreachable()
+    };
+    at_terms(f, *first, others)
+}
+
+// The form moved to each cell of a term and joined by min, for a first term and others, joined by max.
+fn at_terms(f: &Form, first: Term, others: &[Term]) -> Result<Form, Fault>
+    requires { (t : ℕ) → In t (first ∷ others.now) → every (λ c. movable c (used_by (terms_of f.now))) (cells t) ≡ true }
+    ensures { outcome result ≡ any_at (terms_of f.now) (first ∷ others.now) }
+{
+    let mut joined = at_term(f, first)?;
+    for term in others {
+        joined = max(&joined, &at_term(f, *term)?)?;
     }
     Ok(joined)
 }
@@ -35,37 +43,32 @@ pub fn compose(e: &Form, f: &Form) -> Result<Form, Fault>
 fn stays(e: &Form, f: &Form) -> bool
     ensures { result ≡ stays_all (terms_of e.now) (terms_of f.now) }
 {
-    let used = e.used();
-    let mut from = 0;
-    while let Some(cell) = used.cell_from(from) {
-        if !f.stays_at(cell) {
-            return false;
-        }
-        from = cell.number() + 1;
-    }
-    true
+    e.used().cells().all(|cell| f.stays_at(cell))
 }
 
 // The form moved to each cell of a term, joined by min.
 fn at_term(f: &Form, term: Term) -> Result<Form, Fault>
-    requires { (c : ℕ) → c < 63 → Has term.bits c → movable c (used_by (terms_of f.now)) ≡ true }
-    ensures { outcome result ≡ all_at (terms_of f.now) (cells term.bits) }
+    requires { every (λ c. movable c (used_by (terms_of f.now))) (cells term) ≡ true }
+    ensures { outcome result ≡ all_at (terms_of f.now) (cells term) }
 {
-    let first = term.first_cell();
-    let mut joined = moved_to(f, first)?;
-    let mut from = first.number() + 1;
-    while let Some(cell) = term.cell_from(from) {
-        let next = moved_to(f, cell)?;
-        joined = min(&joined, &next)?;
-        from = cell.number() + 1;
+    let mut cells = term.cells();
+    let Some(first) = cells.next() else {
+        unreachable()
+    };
+    let mut joined = moved_to(f, first);
+    for cell in cells {
+        joined = min(&joined, &moved_to(f, cell))?;
     }
     Ok(joined)
 }
 
 // The form moved to a cell at which it stays in the window.
-fn moved_to(f: &Form, cell: Cell) -> Result<Form, Fault>
-    requires { movable cell.number (used_by (terms_of f.now)) ≡ true }
-    ensures { outcome result ≡ made (map (moved cell.number) (terms_of f.now)) }
+fn moved_to(f: &Form, cell: Cell) -> Form
+    requires { movable cell (used_by (terms_of f.now)) ≡ true }
+    ensures { terms_of result ≡ map (moved cell) (terms_of f.now) }
 {
-    f.moved(cell).ok_or(Fault::OutsideWindow)
+    match f.moved(cell) {
+        Some(form) => form,
+        None => unreachable(),
+    }
 }

@@ -22,10 +22,8 @@ pub fn max(f: &Form, g: &Form) -> Result<Form, Fault>
     ensures truth { Ensured result (Either (terms_of f.now) (terms_of g.now)) }
 {
     let mut joined = *f;
-    let mut i = 0;
-    while let Some(term) = g.term(i) {
-        joined.enter(term)?;
-        i += 1;
+    for term in g.terms() {
+        joined.enter(*term)?;
     }
     Ok(joined)
 }
@@ -39,22 +37,18 @@ pub fn min(f: &Form, g: &Form) -> Result<Form, Fault>
 {
     // Entering the first union again changes nothing.
     let mut joined = Form::single(f.first().union(g.first()));
-    let mut i = 0;
-    while let Some(term) = f.term(i) {
-        enter_unions(&mut joined, term, g)?;
-        i += 1;
+    for term in f.terms() {
+        enter_unions(&mut joined, *term, g)?;
     }
     Ok(joined)
 }
 
 // Enters the unions of a term with the terms of g, in order.
 fn enter_unions(joined: &mut Form, term: Term, g: &Form) -> Result<(), Fault>
-    ensures { told result (terms_of joined.new) ≡ enter_all (map (λ u. bit_or term.bits u) (terms_of g.now)) (terms_of joined.old) }
+    ensures { told result (terms_of joined.new) ≡ enter_all (map (λ u. bit_or term u) (terms_of g.now)) (terms_of joined.old) }
 {
-    let mut i = 0;
-    while let Some(other) = g.term(i) {
-        joined.enter(term.union(other))?;
-        i += 1;
+    for other in g.terms() {
+        joined.enter(term.union(*other))?;
     }
     Ok(())
 }
