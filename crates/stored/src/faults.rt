@@ -8,7 +8,7 @@ use std::fmt;
 #[derive(Clone, Copy, PartialEq, Eq, Debug)]
 pub enum SaveFault {
     /// The buffer has fewer bytes than the form takes.
-    BufferTooShort,
+    BufferTooShort = 16,
 }
 
 impl SaveFault {
@@ -16,9 +16,7 @@ impl SaveFault {
     pub fn number(self) -> u8
         ensures { result ≡ save_number self }
     {
-        match self {
-            SaveFault::BufferTooShort => 16,
-        }
+        self as u8
     }
 }
 
@@ -26,15 +24,15 @@ impl SaveFault {
 #[derive(Clone, Copy, PartialEq, Eq, Debug)]
 pub enum LoadFault {
     /// There are fewer than 2 bytes, or the version is not 1.
-    NotVersionOne,
+    NotVersionOne = 11,
     /// The length is not that of the term count.
-    WrongLength,
+    WrongLength = 12,
     /// The bits behind the last term are not all zero.
-    FillingNotZero,
+    FillingNotZero = 13,
     /// The first term is empty, or a later one is not above the one before it.
-    NotAscending,
+    NotAscending = 14,
     /// A term is inside another.
-    TermInsideAnother,
+    TermInsideAnother = 15,
 }
 
 impl LoadFault {
@@ -42,13 +40,7 @@ impl LoadFault {
     pub fn number(self) -> u8
         ensures { result ≡ load_number self }
     {
-        match self {
-            LoadFault::NotVersionOne => 11,
-            LoadFault::WrongLength => 12,
-            LoadFault::FillingNotZero => 13,
-            LoadFault::NotAscending => 14,
-            LoadFault::TermInsideAnother => 15,
-        }
+        self as u8
     }
 }
 

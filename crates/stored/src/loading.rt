@@ -7,7 +7,7 @@ ghost use Rattle.stored.specs.Outcomes.{content_of, outcome, LoadedBack};
 
 use crate::faults::LoadFault;
 use crate::layout::{COUNT_BITS, TERM_BITS, VERSION, VERSION_BITS, bytes_for, term_start};
-use forms::{Form, Term};
+use forms::{CellSet, Form, Term};
 
 /// The form that bytes store.
 /// Faults are looked for in the order of `LoadFault`'s cases, each over all terms.
@@ -57,7 +57,7 @@ fn built(bytes: &[u8], count: usize) -> Result<Form, LoadFault>
     let mut form = Form::single(term(bytes, 0, count));
     for i in 1..count {
         let next = term(bytes, i, count);
-        if form.is_true_on(next.set()) {
+        if form.is_true_on(CellSet::from(next)) {
             return Err(LoadFault::TermInsideAnother);
         }
         let Ok(()) = form.enter(next) else {
@@ -70,7 +70,7 @@ fn built(bytes: &[u8], count: usize) -> Result<Form, LoadFault>
 // One of the terms, which ascend and so are not empty.
 fn term(bytes: &[u8], index: usize, count: usize) -> Term
     requires { (index < count) × ((count ≤ most_terms) × ((term_start count_bits count ≤ 8 * length bytes.now) × (ascends 0 (terms_in count_bits bytes.now count) ≡ true))) }
-    ensures { result.bits ≡ term_in count_bits bytes.now index }
+    ensures { result ≡ term_in count_bits bytes.now index }
 {
     match Term::numbered(field(bytes, term_start(index), TERM_BITS)) {
         Some(term) => term,

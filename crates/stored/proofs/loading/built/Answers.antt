@@ -25,7 +25,7 @@ returns-then-is_true_on c =
     let i : ℕ = c.loop-i.i in
     let l : i < length (terms_in count_bits bytes n) = omega (arith, terms_length count_bits bytes n, c.loop-i-test.true) in
     turn_refused (terms_in count_bits bytes n) (terms_of c.loop-i.form) (ascends_to 0 (terms_in count_bits bytes n) c.requires.1.1.1).1 i
-    c.term-next.result.bits c.set.result.bits l c.loop-i.invariant (c.term-next.ensures ∙ sym (terms_at count_bits bytes n i c.loop-i-test.true)) c.set.ensures
+    c.term-next.result c.from.result l c.loop-i.invariant (c.term-next.ensures ∙ sym (terms_at count_bits bytes n i c.loop-i-test.true)) c.from.ensures.0
     (c.is_true_on.ensures.terms.0 c.if-is_true_on.true)
 
 pub unreachable-requires : goal.unreachable-requires
@@ -35,7 +35,7 @@ unreachable-requires c =
     let i : ℕ = c.loop-i.i in
     let l : i < length (terms_in count_bits bytes n) = omega (arith, terms_length count_bits bytes n, c.loop-i-test.true) in
     turn_never (terms_in count_bits bytes n) (terms_of c.loop-i.form) (ascends_to 0 (terms_in count_bits bytes n) c.requires.1.1.1).1 i
-    c.term-next.result.bits c.set.result.bits l c.loop-i.invariant (c.term-next.ensures ∙ sym (terms_at count_bits bytes n i c.loop-i-test.true)) c.set.ensures
+    c.term-next.result c.from.result l c.loop-i.invariant (c.term-next.ensures ∙ sym (terms_at count_bits bytes n i c.loop-i-test.true)) c.from.ensures.0
     (λ h. both_ways c.is_true_on.result c.if-is_true_on.false (c.is_true_on.ensures.terms.1 h))
     (below i n c.loop-i-test.true c.requires.1.0) _ c.in_default.ensures.exact
 
@@ -46,7 +46,7 @@ loop-i-preserved c =
     let i : ℕ = c.loop-i.i in
     let l : i < length (terms_in count_bits bytes n) = omega (arith, terms_length count_bits bytes n, c.loop-i-test.true) in
     turn_more (terms_in count_bits bytes n) (terms_of c.loop-i.form) (ascends_to 0 (terms_in count_bits bytes n) c.requires.1.1.1).1 i
-    c.term-next.result.bits c.set.result.bits l c.loop-i.invariant (c.term-next.ensures ∙ sym (terms_at count_bits bytes n i c.loop-i-test.true)) c.set.ensures
+    c.term-next.result c.from.result l c.loop-i.invariant (c.term-next.ensures ∙ sym (terms_at count_bits bytes n i c.loop-i-test.true)) c.from.ensures.0
     (λ h. both_ways c.is_true_on.result c.if-is_true_on.false (c.is_true_on.ensures.terms.1 h))
     (below i n c.loop-i-test.true c.requires.1.0) (terms_of c.enter.new.self) c.in-Ok.ensures.exact
 
