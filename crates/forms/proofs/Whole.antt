@@ -1,5 +1,6 @@
 -- What holds of the terms of every form.
-use Rattle.std.proofs.Common.{◌≡◌, ℕ, ◌<◌, ◌≤◌, length, arith, length-take}
+use Rattle.std.proofs.Common.{◌≡◌, ℕ, ◌-◌, ◌<◌, ◌≤◌, List, [], ◌∷◌, length, get_or, take, drop, ap, ◌∙◌, ap₂, arith, length-take}
+use Rattle.std.proofs.lemmas.List.{take_all}
 use Rattle.forms.specs.declared.form.Form.{Form}
 use Rattle.forms.specs.Terms.{most_terms, Terms, Ascending, Apart}
 use Rattle.forms.specs.Parts.{terms_of}
@@ -24,3 +25,8 @@ module _ (f : Form) where
 
   pub sound_form : Sound (terms_of f)
   sound_form = sound_of (terms_of f) f.ascending f.apart
+
+-- the first term and the others, as a slice pattern parts them, are the terms
+pub parted : (ts f : List ℕ) (t : ℕ) → ts ≡ f → 0 < length f → t ≡ get_or ts 0 t → t ∷ take (length ts - 1) (drop 1 ts) ≡ f
+parted [] f t e l q = absurd (omega (arith, ap length e))
+parted (u ∷ ts) f t e l q = ap₂ (λ (x : ℕ) (xs : List ℕ). x ∷ xs) q (take_all (length {A = ℕ} (u ∷ ts) - 1) ts (omega arith)) ∙ e

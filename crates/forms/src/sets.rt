@@ -62,10 +62,13 @@ impl CellSet {
             return None;
         }
         let number = self.bits.leading_zeros() - 1;
+        let cell = Cell {
+            number: number as u8,
+        };
         let others = CellSet {
             bits: self.bits - (1 << (62 - number)),
         };
-        Some((Cell::numbered(number as u8)?, others))
+        Some((cell, others))
     }
 
     /// The cells of the set, ascending.

@@ -7,7 +7,7 @@ use std::marker::Model;
 /// A cell: a row from -4 to 4 and a column from -3 to 3.
 #[derive(Clone, Copy, PartialEq, Eq, Debug)]
 pub struct Cell {
-    number: u8,
+    pub(crate) number: u8,
 }
 
 // Clauses see a cell as its number.

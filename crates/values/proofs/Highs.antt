@@ -1,33 +1,34 @@
 -- Going through the terms of a form, with the greatest of their least elements so far.
-use Rattle.std.proofs.Common.{◌≡◌, ℕ, zero, suc, ◌+◌, ◌<◌, Bool, List, [], ◌∷◌, length, get_or, take, sym, ap, ◌∙◌, inl, inr, arith}
-use Rattle.std.proofs.lemmas.List.{take_more, length-take-le, take_all}
+use Rattle.std.proofs.Common.{◌≡◌, ℕ, Bool, List, [], ◌∷◌, ◌++◌, fold, sym, ap, ◌∙◌, subst, inl, inr, append_assoc, append-nil}
 use Rattle.elements.specs.Order.{greater}
 use Rattle.forms.specs.Terms.{In, Terms}
-use Rattle.forms.proofs.Entered.{in_at}
 use Rattle.values.specs.Value.{Ordered, least, value}
 use Rattle.values.proofs.Levels.{value_push, value_one}
 
-take_in : (i u : ℕ) (g : List ℕ) → In u (take i g) → In u g
-take_in zero u g m = absurd m
-take_in (suc i) u [] m = m
-take_in (suc i) u (v ∷ g) (inl e) = inl e
-take_in (suc i) u (v ∷ g) (inr m) = inr (take_in i u g m)
+-- the greatest so far, after one term more
+abbrev pub higher : {E : Type 0} → (E → E → Bool) → (ℕ → E) → E → ℕ → E
+higher le x high t = greater le high (least le x t)
 
-module _ {E : Type 0} (le : E → E → Bool) (x : ℕ → E) (f : List ℕ) where
-  pub high_first : (t : ℕ) (high : E) → 0 < length f → t ≡ get_or f 0 0 → high ≡ least le x t → high ≡ value le x (take 1 f)
-  high_first t high l e q =
-      q ∙ ap (least le x) e ∙ sym (ap (value le x) (take_more f 0 0 l) ∙ value_one le x (get_or f 0 0))
+module _ {E : Type 0} (le : E → E → Bool) (o : Ordered le) (x : ℕ → E) where
+  some_push : (f : List ℕ) (t : ℕ) → f ++ t ∷ [] ≡ [] → ⊥
+  some_push [] t e = absurd (cc)
+  some_push (u ∷ f) t e = absurd (cc)
 
-  some_left : (i : ℕ) → 0 < i → i < length f → take i f ≡ [] → ⊥
-  some_left i p l e = omega (arith, ap length e, length-take-le i f (omega arith))
+  terms_push : (f : List ℕ) (t : ℕ) (ts : List ℕ) → Terms f → Terms (t ∷ ts) → Terms (f ++ t ∷ [])
+  terms_push [] t ts v w u (inl e) = w u (inl e)
+  terms_push [] t ts v w u (inr m) = absurd m
+  terms_push (d ∷ f) t ts v w u (inl e) = v u (inl e)
+  terms_push (d ∷ f) t ts v w u (inr m) = terms_push f t ts (λ y n. v y (inr n)) w u m
 
-  pub high_more : Ordered le → Terms f → (i t : ℕ) (high r : E) → 0 < i → i < length f → t ≡ get_or f i 0
-      → high ≡ value le x (take i f) → r ≡ greater le high (least le x t) → r ≡ value le x (take (i + 1) f)
-  high_more w k i t high r p l e h q =
-      let b = k (get_or f i 0) (in_at f i l) in
-      q ∙ ap (λ (y : E). greater le y (least le x t)) h ∙ ap (λ (y : ℕ). greater le (value le x (take i f)) (least le x y)) e
-      ∙ sym (ap (value le x) (take_more f i 0 l)
-      ∙ value_push le w x (take i f) (get_or f i 0) (some_left i p l) (λ u m. k u (take_in i u f m)) b.0 b.1)
+  go_on : (f ts : List ℕ) → (f ≡ [] → ⊥) → Terms f → Terms ts → fold (higher le x) (value le x f) ts ≡ value le x (f ++ ts)
+  go_on f [] n v w = ap (value le x) (sym (append-nil f))
+  go_on f (t ∷ ts) n v w =
+      let b = w t (inl (let e : t ≡ t = cc in e)) in
+      ap (λ (h : E). fold (higher le x) h ts) (sym (value_push le o x f t n v b.0 b.1))
+      ∙ go_on (f ++ t ∷ []) ts (some_push f t) (terms_push f t ts v w) (λ u m. w u (inr m))
+      ∙ ap (value le x) (append_assoc f (t ∷ []) ts)
 
-  pub high_all : (i : ℕ) (high : E) → i ≡ length f → high ≡ value le x (take i f) → high ≡ value le x f
-  high_all i high e h = h ∙ ap (value le x) (take_all i f (omega (arith, e)))
+  pub whole_value : (t : ℕ) (ts : List ℕ) (high : E) → Terms (t ∷ ts) → high ≡ least le x t → fold (higher le x) high ts ≡ value le x (t ∷ ts)
+  whole_value t ts high w e =
+      ap (λ (h : E). fold (higher le x) h ts) (e ∙ sym (value_one le x t))
+      ∙ go_on (t ∷ []) ts (λ q. absurd (cc)) (λ u m. elim m [ inl d ↦ w u (inl d) | inr n ↦ absurd n ]) (λ u m. w u (inr m))

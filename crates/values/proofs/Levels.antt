@@ -72,21 +72,27 @@ module _ {E : Type 0} (le : E → E → Bool) (o : Ordered le) where
   -- an element is below a term's least where it is below each cell's,
   -- and below a form's value where the form is true on the cells whose element it is below
   module _ (x : ℕ → E) (u : E) where
-    pub least_to : (t : ℕ) → 0 < t → t < 2 ^ 63 → Le le u (least le x t) → Inside t (λ c. Le le u (x c))
+    pub least_in : (t : ℕ) → (cells t ≡ [] → ⊥) → Le le u (least le x t) → Inside t (λ c. Le le u (x c))
     unfolding least
-    least_to t p q h c l k = go (cells t) (cells_some t p q) h (cells_in t c l k)
+    least_in t n h c l k = go (cells t) n h (cells_in t c l k)
       where
         go : (cs : List ℕ) → (cs ≡ [] → ⊥) → Le le u (over (x 0) (least_of le x) cs) → In c cs → Le le u (x c)
         go [] n h m = absurd m
         go (d ∷ ds) n h m = least_of_to x u d ds h c m
 
-    pub least_from : (t : ℕ) → 0 < t → t < 2 ^ 63 → Inside t (λ c. Le le u (x c)) → Le le u (least le x t)
+    pub least_out : (t : ℕ) → (cells t ≡ [] → ⊥) → Inside t (λ c. Le le u (x c)) → Le le u (least le x t)
     unfolding least
-    least_from t p q h = go (cells t) (cells_some t p q) (λ c m. h c (in_cells t c m).0 (in_cells t c m).1)
+    least_out t n h = go (cells t) n (λ c m. h c (in_cells t c m).0 (in_cells t c m).1)
       where
         go : (cs : List ℕ) → (cs ≡ [] → ⊥) → ((c : ℕ) → In c cs → Le le u (x c)) → Le le u (over (x 0) (least_of le x) cs)
         go [] n h = absurd (n refl)
         go (d ∷ ds) n h = least_of_from x u d ds h
+
+    pub least_to : (t : ℕ) → 0 < t → t < 2 ^ 63 → Le le u (least le x t) → Inside t (λ c. Le le u (x c))
+    least_to t p q = least_in t (cells_some t p q)
+
+    pub least_from : (t : ℕ) → 0 < t → t < 2 ^ 63 → Inside t (λ c. Le le u (x c)) → Le le u (least le x t)
+    least_from t p q = least_out t (cells_some t p q)
 
     pub value_to : (f : List ℕ) → (f ≡ [] → ⊥) → Terms f → Le le u (value le x f) → TrueOn f (λ c. Le le u (x c))
     unfolding value

@@ -1,13 +1,15 @@
 -- Windows that are marked cell by cell.
-use Rattle.std.proofs.Common.{◌≡◌, ℕ, ◌+◌, ◌-◌, ◌<◌, ◌≤◌, cond, eqb, sym, ◌∙◌, subst, inl, inr, arith}
-use Rattle.std.proofs.lemmas.Bool.{cases_eq, cases_lt, eq-eqb, ne_eqb, cond-true, cond-false}
-use Rattle.forms.specs.Sets.{bit, Has}
+use Rattle.std.proofs.Common.{◌≡◌, ℕ, ◌-◌, ◌<◌, cond, eqb, List, [], ◌∷◌, sym, refl, ◌∙◌, subst, inl, inr}
+use Rattle.std.proofs.lemmas.Bool.{cases_eq, eq-eqb, ne_eqb, cond-true, cond-false}
+use Rattle.forms.specs.Sets.{bit, Has, cells}
+use Rattle.forms.specs.Terms.{In}
+use Rattle.forms.proofs.Listed.{cells_in, in_cells}
 use Rattle.values.specs.Value.{marked}
 
--- the cells before n are marked, and the others low
-pub record Marking {E : Type 0} (x : ℕ → E) (low high : E) (s n : ℕ) : Type 0 where
-  pub before : (c : ℕ) → c < n → c < 63 → x c ≡ marked low high s c
-  pub others : (c : ℕ) → n ≤ c → c < 63 → x c ≡ low
+-- all cells but those in rest are marked, and those are in the set
+pub record Marking {E : Type 0} (x : ℕ → E) (low high : E) (s : ℕ) (rest : List ℕ) : Type 0 where
+  pub done : (c : ℕ) → c < 63 → (In c rest → ⊥) → x c ≡ marked low high s c
+  pub left : (c : ℕ) → In c rest → Has s c
 
 module _ {E : Type 0} (low high : E) (s : ℕ) where
   marks : (c : ℕ) → Has s c → high ≡ marked low high s c
@@ -16,30 +18,22 @@ module _ {E : Type 0} (low high : E) (s : ℕ) where
   leaves : (c : ℕ) → (Has s c → ⊥) → low ≡ marked low high s c
   leaves c h = sym (cond-false (eqb (bit s (62 - c)) 1) high low (ne_eqb (bit s (62 - c)) 1 h))
 
-  pub marking_none : (x : ℕ → E) → ((c : ℕ) → c < 63 → x c ≡ low) → Marking x low high s 0
-  marking_none x h = record { before = λ c l m. absurd (omega arith); others = λ c l m. h c m }
+  pub marking_none : (x : ℕ → E) → ((c : ℕ) → c < 63 → x c ≡ low) → Marking x low high s (cells s)
+  marking_none x h = record { done = λ c l n. h c l ∙ leaves c (λ k. n (cells_in s c l k)); left = λ c m. (in_cells s c m).1 }
 
-  pub marking_skip : (x : ℕ → E) (n k : ℕ) → k ≡ n → (Has s k → ⊥) → n < 63 → Marking x low high s n → Marking x low high s (n + 1)
-  marking_skip x n k e h l m = record {
-    before = λ c i j. elim (cases_eq c n) [ inl q ↦ m.others c (omega (arith, q)) j ∙ leaves c (λ z. h (subst (λ (y : ℕ). Has s y) (q ∙ sym e) z)) | inr q ↦ m.before c (below c q i) j ];
-    others = λ c i j. m.others c (omega arith) j;
-  }
-    where
-      below : (c : ℕ) → (c ≡ n → ⊥) → c < n + 1 → c < n
-      below c q i = elim (cases_lt c n) [ inl a ↦ a | inr b ↦ absurd (q (omega arith)) ]
-
-  pub marking_more : (x y : ℕ → E) (n k : ℕ) → k ≡ n → Has s k → n < 63
-      → ((c : ℕ) → c < 63 → y c ≡ cond (eqb c k) high (x c)) → Marking x low high s n → Marking y low high s (n + 1)
-  marking_more x y n k e h l z m = record {
-    before = λ c i j. elim (cases_eq c n) [
-      | inl q ↦ z c j ∙ cond-true (eqb c k) high (x c) (eq-eqb c k (q ∙ sym e)) ∙ marks c (subst (λ (v : ℕ). Has s v) (e ∙ sym q) h)
-      | inr q ↦ z c j ∙ cond-false (eqb c k) high (x c) (ne_eqb c k (λ w. q (w ∙ e))) ∙ m.before c (below c q i) j
+  pub marking_more : (x y : ℕ → E) (k : ℕ) (rest left : List ℕ) → left ≡ k ∷ rest → ((c : ℕ) → c < 63 → y c ≡ cond (eqb c k) high (x c))
+      → Marking x low high s left → Marking y low high s rest
+  marking_more x y k rest left e z m = record {
+    done = λ c l n. elim (cases_eq c k) [
+      | inl q ↦ z c l ∙ cond-true (eqb c k) high (x c) (eq-eqb c k q) ∙ marks c (subst (λ (v : ℕ). Has s v) (sym q) (m.left k (here k (inl refl))))
+      | inr q ↦ z c l ∙ cond-false (eqb c k) high (x c) (ne_eqb c k q) ∙ m.done c l (λ i. other c q n (subst (λ (cs : List ℕ). In c cs) e i))
     ];
-    others = λ c i j. z c j ∙ cond-false (eqb c k) high (x c) (ne_eqb c k (λ w. far c i (w ∙ e))) ∙ m.others c (omega arith) j;
+    left = λ c i. m.left c (here c (inr i));
   }
     where
-      below : (c : ℕ) → (c ≡ n → ⊥) → c < n + 1 → c < n
-      below c q i = elim (cases_lt c n) [ inl a ↦ a | inr b ↦ absurd (q (omega arith)) ]
+      here : (c : ℕ) → In c (k ∷ rest) → In c left
+      here c i = subst (λ (cs : List ℕ). In c cs) (sym e) i
 
-      far : (c : ℕ) → n + 1 ≤ c → c ≡ n → ⊥
-      far c i e = omega arith
+      other : (c : ℕ) → (c ≡ k → ⊥) → (In c rest → ⊥) → In c (k ∷ rest) → ⊥
+      other c q n (inl i) = q i
+      other c q n (inr i) = n i

@@ -17,14 +17,14 @@ impl<E: Copy> Window<E> {
 
     /// The element at a cell.
     pub fn get(&self, cell: Cell) -> E
-        ensures { (d : E) → result ≡ element_at self.now d cell.number }
+        ensures { (d : E) → result ≡ element_at self.now d cell }
     {
         self.all[usize::from(cell.number())]
     }
 
     /// Puts an element at a cell; the others stay.
     pub fn set(&mut self, cell: Cell, element: E)
-        ensures { Changed self.old cell.number element self.new }
+        ensures { Changed self.old cell element self.new }
     {
         let number = usize::from(cell.number());
         self.all[number] = element;

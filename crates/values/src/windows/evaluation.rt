@@ -1,9 +1,8 @@
 // The value of a form over a window: the greatest, over its terms, of the least element among the term's cells.
-ghost use Rattle.std.specs.Prelude.{◌≡◌, ◌^◌, ◌<◌};
+ghost use Rattle.std.specs.Prelude.{◌≡◌};
 ghost use Rattle.elements.specs.Order.{greater};
 ghost use Rattle.forms.specs.Parts.{terms_of};
 ghost use Rattle.values.specs.Value.{least as least_in, value as value_of};
-ghost use Rattle.values.specs.Walks.{Taken};
 ghost use Rattle.values.specs.Windows.{element_at};
 ghost use Rattle.values.specs.Laws.{Whole, Levels, MaxLaw, MinLaw, AfterLaw};
 
@@ -21,23 +20,27 @@ pub fn value<E: Order>(form: &Form, window: &Window<E>) -> E
     ensures minima { MinLaw E.Order.most }
     ensures composition { AfterLaw E.Order.most }
 {
-    let mut high = lowest(window, form.first());
-    let mut i = 1;
-    while let Some(term) = form.term(i) {
-        high = raised(window, term, high);
-        i += 1;
+    let [first, others @ ..] = form.terms() else {
+        unreachable()
+    };
+    let mut high = lowest(window, *first);
+    for term in others {
+        high = raised(window, *term, high);
     }
     high
 }
 
 // The least element among the cells of a term.
 fn lowest<E: Order>(window: &Window<E>, term: Term) -> E
-    ensures { (d : E) → result ≡ least_in E.Order.most (element_at window.now d) term.bits }
+    ensures { (d : E) → result ≡ least_in E.Order.most (element_at window.now d) term }
 {
-    let mut rest = term.number();
-    let mut low = window.all[pop(&mut rest)];
-    while rest != 0 {
-        low = least(low, window.all[pop(&mut rest)]);
+    let mut cells = term.cells();
+    let Some(first) = cells.next() else {
+        unreachable()
+    };
+    let mut low = window.get(first);
+    for cell in cells {
+        low = least(low, window.get(cell));
     }
     low
 }
@@ -45,22 +48,18 @@ fn lowest<E: Order>(window: &Window<E>, term: Term) -> E
 // The greater of `high` and the least element among the cells of a term.
 // A term that has an element at most `high` does not raise it, and is left there.
 fn raised<E: Order>(window: &Window<E>, term: Term, high: E) -> E
-    ensures { (d : E) → result ≡ greater E.Order.most high (least_in E.Order.most (element_at window.now d) term.bits) }
+    ensures { (d : E) → result ≡ greater E.Order.most high (least_in E.Order.most (element_at window.now d) term) }
 {
-    let mut rest = term.number();
-    let mut low = window.all[pop(&mut rest)];
-    while rest != 0 && !low.at_most(high) {
-        low = least(low, window.all[pop(&mut rest)]);
+    let mut cells = term.cells();
+    let Some(first) = cells.next() else {
+        unreachable()
+    };
+    let mut low = window.get(first);
+    for cell in cells {
+        if low.at_most(high) {
+            return high;
+        }
+        low = least(low, window.get(cell));
     }
     greatest(high, low)
-}
-
-// Takes the first cell out of a set.
-fn pop(rest: &mut u64) -> usize
-    requires { (0 < rest.old) × (rest.old < 2 ^ 63) }
-    ensures { Taken rest.old result rest.new }
-{
-    let cell = rest.leading_zeros() - 1;
-    *rest -= 1 << (62 - cell);
-    cell as usize
 }

@@ -4,7 +4,7 @@ ghost use Rattle.values.specs.Telling.{BytesTell, Exactly, Marked, MarkLaw, Tell
 
 use super::Window;
 use elements::{Order, greatest, least};
-use forms::{Cell, Form, Term};
+use forms::{Form, Term};
 
 /// A window on which the values of two forms differ wherever the elements a and b do,
 /// or `None` where the forms have equal terms, and so equal stored bytes and equal values on every window.
@@ -16,23 +16,17 @@ pub fn telling_window<E: Order>(f: &Form, g: &Form, a: E, b: E) -> Option<Window
     ensures values { Values E.Order.most result a b (terms_of f.now) (terms_of g.now) }
     ensures marks { MarkLaw E.Order.most }
 {
-    let Some(term) = f.separating(g) else {
-        return None;
-    };
+    let term = f.separating(g)?;
     Some(marked(term, least(a, b), greatest(a, b)))
 }
 
 // The window that has `high` on the cells of a term and `low` elsewhere.
 fn marked<E: Order>(term: Term, low: E, high: E) -> Window<E>
-    ensures { Marked result low high term.bits }
+    ensures { Marked result low high term }
 {
     let mut window = Window::filled(low);
-    let mut number = 0;
-    while let Some(cell) = Cell::numbered(number) {
-        if term.contains(cell) {
-            window.set(cell, high);
-        }
-        number += 1;
+    for cell in term.cells() {
+        window.set(cell, high);
     }
     window
 }

@@ -1,5 +1,4 @@
-use Rattle.std.proofs.Common.{◌≡◌, ℕ, ◌-◌, ◌<◌, true, List, [], ◌∷◌, length, get_or, take, drop, Result, sym, ap, ◌∙◌, subst, ap₂, arith}
-use Rattle.std.proofs.lemmas.List.{take_all}
+use Rattle.std.proofs.Common.{◌≡◌, true, List, Result, sym, ap, ◌∙◌, subst, ℕ}
 use Rattle.forms.specs.declared.form.Form.{Form}
 use Rattle.forms.specs.declared.faults.Fault.{Fault}
 use Rattle.forms.specs.Sets.{cells, every, movable}
@@ -7,6 +6,7 @@ use Rattle.forms.specs.Terms.{In, used}
 use Rattle.forms.specs.Entering.{made}
 use Rattle.forms.specs.Faults.{fault_number}
 use Rattle.forms.specs.Parts.{terms_of, outcome}
+use Rattle.forms.proofs.Whole.{parted}
 use Rattle.joins.specs.Joins.{any_at, stays_all, compose}
 use Rattle.joins.specs.Outcomes.{Ensured, After, Outside}
 use Rattle.joins.proofs.Passing.{compose_out, compose_in, stays_cells}
@@ -31,11 +31,6 @@ returns-then-not-stays c =
     let s = c.if-not-stays.ensures in
     let x = compose_out (terms_of e) (terms_of f) (sym s) in
     record { exact = x; truth = tt; window = stays_leaves (terms_of e) (terms_of f) (sym s) }
-
--- the first term and the others are the terms
-parted : (ts f : List ℕ) (t : ℕ) → ts ≡ f → 0 < length f → t ≡ get_or ts 0 t → t ∷ take (length ts - 1) (drop 1 ts) ≡ f
-parted [] f t e l q = absurd (omega (arith, ap length e))
-parted (u ∷ ts) f t e l q = ap₂ (λ (x : ℕ) (xs : List ℕ). x ∷ xs) q (take_all (length {A = ℕ} (u ∷ ts) - 1) ts (omega arith)) ∙ e
 
 pub at_terms-requires : goal.at_terms-requires
 at_terms-requires c =

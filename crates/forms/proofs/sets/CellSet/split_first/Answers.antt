@@ -15,13 +15,15 @@ overflow_sub-others-2 c =
     let s : ℕ = c.self.inside.bits in
     subst (λ (y : ℕ). y ≤ s) (sym (mask_is (count_leading_zeros 64 s))) (top s (omega arith) c.self.invariant).low
 
+pub invariant_of-cell : goal.invariant_of-cell
+invariant_of-cell c = (top c.self.inside.bits (omega arith) c.self.invariant).cell
+
 pub returns : goal.returns
 returns c =
     let s : ℕ = c.self.inside.bits in
     let n : ℕ = count_leading_zeros 64 s in
     let h : Top s n = top s (omega arith) c.self.invariant in
-    let k : c.in_ok-numbered.field-0 ≡ n - 1 = c.in_ok-numbered.ensures in
-    rw (mask_is n, k, ← c.self.view_is) record {
+    rw (mask_is n, ← c.self.view_is) record {
       cells = first_and_others s (n - 1) (omega arith) h.cell h.low h.high;
       others = others_from s (n - 1) (omega arith) h.cell h.low h.high;
     }

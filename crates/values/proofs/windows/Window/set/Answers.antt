@@ -4,6 +4,6 @@ use Rattle.values.proofs.windows.Window.set.Goals as goal
 
 pub returns : goal.returns
 returns g c = λ d k l.
-    let e : c.from-number.result ≡ c.args.cell.number = cc in
-    let h : c.args.cell.number < length c.args.self.now.all = omega (arith, c.args.self.now.size, c.args.cell.within) in
-    changed c.args.self.now.all c.from-number.result c.args.cell.number c.args.element e h d k
+    let e : c.from-number.result ≡ c.args.cell = cc in
+    let h : c.args.cell < length c.args.self.now.all = omega (arith, c.args.self.now.size, c.number.ensures.value, c.number.ensures.bound) in
+    changed c.args.self.now.all c.from-number.result c.args.cell c.args.element e h d k

@@ -1,38 +1,29 @@
-use Rattle.std.proofs.Common.{ℕ, ◌<◌, length, get_or, subst, arith}
-use Rattle.std.proofs.lemmas.List.{get_or_default}
+use Rattle.std.proofs.Common.{ℕ, List, sym, ◌∙◌, subst}
 use Rattle.values.specs.Value.{Ordered}
-use Rattle.values.specs.Walks.{Taken}
 use Rattle.values.specs.Windows.{element_at}
 use Rattle.values.proofs.Orders.{ordered}
 use Rattle.values.proofs.Walks.{Walked, walk_first, walk_more, walk_all}
 use Rattle.values.proofs.windows.evaluation.lowest.Goals as goal
 
-pub loop-rest-init : goal.loop-rest-init
-loop-rest-init g c = (omega (arith, c.pop.ensures.less, c.number-rest.ensures.fits), λ d t w. w)
-
-pub loop-rest-preserved : goal.loop-rest-preserved
-loop-rest-preserved g c =
+pub loop-cell-init : goal.loop-cell-init
+loop-cell-init g c = λ d.
     let o : Ordered g.E.Order.most = ordered g.E.Order.most g.met.E.Order.reflexive g.met.E.Order.total g.met.E.Order.antisymmetric g.met.E.Order.transitive in
-    let n : ℕ = c.pop-in-loop-rest.result in
-    let z = c.index-window-pop-in-loop-rest.result in
-    let l : n < length c.args.window.now.all = omega (arith, c.args.window.now.size, c.pop-in-loop-rest.ensures.cell) in (
-      omega (arith, c.pop-in-loop-rest.ensures.less, c.loop-rest.invariant.0),
-      λ d t w.
-          walk_more g.E.Order.most o (element_at c.args.window.now d) t c.loop-rest.rest n c.pop-in-loop-rest.new.rest
-          c.loop-rest.low (get_or c.args.window.now.all n z) c.least-low.result
-          (c.loop-rest.invariant.1 d t w) c.pop-in-loop-rest.ensures (get_or_default c.args.window.now.all n z d l) c.least-low.ensures.value,
-    )
+    rw c.into_iter-cell-iterator.ensures.into_iter_gives
+    (walk_first g.E.Order.most o (element_at c.args.window.now d) c.args.term c.in-Some.first c.next.new.self c.get-low.result (sym c.cells-cells.ensures.value ∙ c.in-Some.ensures.steps) (c.get-low.ensures d))
+
+pub loop-cell-preserved : goal.loop-cell-preserved
+loop-cell-preserved g c = λ d.
+    let o : Ordered g.E.Order.most = ordered g.E.Order.most g.met.E.Order.reflexive g.met.E.Order.total g.met.E.Order.antisymmetric g.met.E.Order.transitive in
+    walk_more g.E.Order.most o (element_at c.args.window.now d) c.args.term c.in-Some-cell.cell c.next-in-loop-cell.new.self c.loop-cell.cell-iterator
+    c.loop-cell.low c.get.result c.least-low.result (c.loop-cell.invariant d) c.in-Some-cell.ensures.steps (c.get.ensures d) c.least-low.ensures.value
+
+pub unreachable-requires : goal.unreachable-requires
+unreachable-requires g c = c.cells-cells.ensures.some (sym c.cells-cells.ensures.value ∙ c.in_default.ensures.steps.0)
 
 pub returns : goal.returns
 returns g c = λ d.
     let o : Ordered g.E.Order.most = ordered g.E.Order.most g.met.E.Order.reflexive g.met.E.Order.total g.met.E.Order.antisymmetric g.met.E.Order.transitive in
-    let n : ℕ = c.pop.result in
-    let z = c.index-window-pop.result in
-    let l : n < length c.args.window.now.all = omega (arith, c.args.window.now.size, c.pop.ensures.cell) in
-    let p : Taken c.args.term.bits n c.pop.new.rest = subst (λ (s : ℕ). Taken s n c.pop.new.rest) c.number-rest.ensures.value c.pop.ensures in
-    let w : Walked g.E.Order.most (element_at c.args.window.now d) c.args.term.bits c.loop-rest.rest c.loop-rest.low =
-    c.loop-rest.invariant.1 d c.args.term.bits
-    (walk_first g.E.Order.most o (element_at c.args.window.now d) c.args.term.bits n c.pop.new.rest
-    (get_or c.args.window.now.all n z) p (get_or_default c.args.window.now.all n z d l)) in
-    walk_all g.E.Order.most o (element_at c.args.window.now d) c.args.term.bits c.args.term.some c.args.term.fits c.loop-rest.low
-    (subst (λ (s : ℕ). Walked g.E.Order.most (element_at c.args.window.now d) c.args.term.bits s c.loop-rest.low) c.loop-rest-test.false w)
+    let x = element_at c.args.window.now d in
+    let t : ℕ = c.args.term in
+    walk_all g.E.Order.most o x t c.cells-cells.ensures.some c.loop-cell.low
+    (subst (λ (cs : List ℕ). Walked g.E.Order.most x t cs c.loop-cell.low) c.in-None.ensures.steps.0 (c.loop-cell.invariant d))

@@ -16,8 +16,8 @@ returns g c =
     let o : Ordered g.E.Order.most = ordered g.E.Order.most g.met.E.Order.reflexive g.met.E.Order.total g.met.E.Order.antisymmetric g.met.E.Order.transitive in
     let f : List ℕ = terms_of c.args.f.now in
     let h : List ℕ = terms_of c.args.g.now in
-    let s : ℕ = c.in-Some.term.bits in
-    let q = c.in-Some.ensures in
+    let s : ℕ = c.in_ok-term.term in
+    let q = c.in_ok-term.ensures in
     let low = lesser g.E.Order.most c.args.a c.args.b in
     let high = greater g.E.Order.most c.args.a c.args.b in
     let m : Marked c.marked.result low high s =
@@ -30,11 +30,11 @@ returns g c =
       marks = mark_value g.E.Order.most o;
     }
 
-pub returns-in_default : goal.returns-in_default
-returns-in_default g c =
+pub returns-in_err-term : goal.returns-in_err-term
+returns-in_err-term g c =
     let o : Ordered g.E.Order.most = ordered g.E.Order.most g.met.E.Order.reflexive g.met.E.Order.total g.met.E.Order.antisymmetric g.met.E.Order.transitive in
-    let q = c.in_default.ensures in
-    record {
+    let q = c.in_err-term.ensures in
+    rw c.from_residual.ensures record {
       exact = none_telling (telling (terms_of c.args.f.now) (terms_of c.args.g.now)) q.exact;
       terms = q.truth;
       bytes = ap bytes_of q.truth;
