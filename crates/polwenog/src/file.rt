@@ -1,4 +1,6 @@
 // Reading a file whole, into a buffer that is sized once.
+use anyhow::anyhow;
+use std::env::Args;
 use std::fs::File;
 use std::io;
 use std::io::Read;
@@ -14,8 +16,7 @@ pub(crate) fn announce(rt: &HostRuntime, doing: &str, path: &str, length: u64) -
     if length < LONG {
         return Ok(());
     }
-    let megabytes = length >> 20;
-    eprintln!(rt; "polwenog: {doing} {path}, {megabytes} MB")
+    eprintln!(rt; "polwenog: {doing} {path}, {} MB", length >> 20)
 }
 
 // The bytes of a file; what it has past the length that it gave, as a pipe does, is read too.
@@ -33,4 +34,41 @@ pub(crate) fn read_whole(rt: &HostRuntime, path: &str) -> io::Result<Vec<u8>> {
         bytes.extend_from_slice(&piece[0..count])?;
     }
     Ok(bytes)
+}
+
+// Hands on the path and the bytes of each file that a command names; the first that cannot be read ends it.
+pub(crate) fn each_file<F: FnMut(&str, Vec<u8>) -> anyhow::Result<()>>(
+    rt: &HostRuntime,
+    command: &str,
+    paths: Args,
+    mut report: F,
+) -> anyhow::Result<()>
+    requires { F.IsAlwaysCallable report }
+{
+    let mut paths = paths.peekable();
+    if paths.peek().is_none() {
+        return Err(anyhow!("{command}: name at least one file"));
+    }
+    for path in paths {
+        let read = read_whole(rt, path.as_str());
+        let bytes = or_named(rt, path.as_str(), read, "not every file could be read")?;
+        report(path.as_str(), bytes)?;
+    }
+    Ok(())
+}
+
+// What was done with a file; where it failed, the error stream says with which file and why, and `ending` is the error.
+pub(crate) fn or_named<T>(
+    rt: &HostRuntime,
+    path: &str,
+    done: io::Result<T>,
+    ending: &str,
+) -> anyhow::Result<T> {
+    match done {
+        Ok(value) => Ok(value),
+        Err(e) => {
+            eprintln!(rt; "polwenog: {path}: {e}")?;
+            Err(anyhow!(ending))
+        }
+    }
 }
