@@ -8,9 +8,6 @@ use std::io::Read;
 // Work on a file of this length or more is announced.
 const LONG: u64 = 64 << 20;
 
-// How much is read at a time: enough that calls cost little, small enough to stay in the cache.
-const PIECE: usize = 256 << 10;
-
 // Says on the error stream what is being done to a long file.
 pub(crate) fn announce(rt: &HostRuntime, doing: &str, path: &str, length: u64) -> io::Result<()> {
     if length < LONG {
@@ -25,14 +22,7 @@ pub(crate) fn read_whole(rt: &HostRuntime, path: &str) -> io::Result<Vec<u8>> {
     let length = file.metadata()?.len();
     announce(rt, "reading", path, length)?;
     let mut bytes = Vec::with_capacity(rt.alloc(), length as usize)?;
-    let mut piece = vec![in rt.alloc(); 0u8; PIECE]?;
-    for _ in 0..u64::MAX {
-        let count = file.read(&mut piece)?;
-        if count == 0 {
-            break;
-        }
-        bytes.extend_from_slice(&piece[0..count])?;
-    }
+    file.read_to_end(&mut bytes)?;
     Ok(bytes)
 }
 

@@ -4,7 +4,7 @@ use anyhow::{Context, anyhow};
 use elements::Pixel;
 use images::Image;
 use sources::Source;
-use std::alloc::AllocError;
+use std::alloc::{AllocError, Global};
 use std::env::Args;
 use std::io;
 use std::time::Instant;
@@ -22,7 +22,7 @@ pub(crate) fn time(rt: &HostRuntime, mut paths: Args) -> anyhow::Result<()> {
     println!(rt; "parse: {took} us")?;
     let (sum, took) = timed(rt, || sum_by_place(&image))?;
     println!(rt; "read by place: {took} us, sum {sum}")?;
-    let (frame, took) = timed(rt, || rows_of(rt, &image))?;
+    let (frame, took) = timed(rt, || rows_of(rt.alloc(), &image))?;
     println!(rt; "read by row: {took} us, sum {}", sum_of(&frame?))?;
     Ok(())
 }
@@ -37,24 +37,31 @@ fn timed<T: Drop, F: FnOnce() -> T>(rt: &HostRuntime, step: F) -> io::Result<(T,
 }
 
 // The sum of the samples, place by place.
-fn sum_by_place(image: &Image) -> u64 {
-    (0..image.height() as i32)
-        .map(|row| sum_of_row(image, row))
-        .fold(0, u64::wrapping_add)
+fn sum_by_place<S: Source<Element = Pixel>>(source: &S) -> u64 {
+    let mut sum = 0u64;
+    for row in 0..source.height() as i32 {
+        sum = sum.wrapping_add(sum_of_row(source, row));
+    }
+    sum
 }
 
-fn sum_of_row(image: &Image, row: i32) -> u64 {
-    (0..image.width() as i32)
-        .filter_map(|column| image.read(row, column).ok())
-        .fold(0, |sum, Pixel(sample)| sum.wrapping_add(u64::from(sample)))
+// A loop: by `filter_map` and `fold` a place took 25 times as long.
+fn sum_of_row<S: Source<Element = Pixel>>(source: &S, row: i32) -> u64 {
+    let mut sum = 0u64;
+    for column in 0..source.width() as i32 {
+        if let Ok(Pixel(sample)) = source.read(row, column) {
+            sum = sum.wrapping_add(u64::from(sample));
+        }
+    }
+    sum
 }
 
-// The frame of an image, filled row by row.
-fn rows_of(rt: &HostRuntime, image: &Image) -> Result<Vec<Pixel>, AllocError> {
-    let width = image.width() as usize;
-    let mut frame = vec![in rt.alloc(); Pixel(0); image.height() as usize * width]?;
-    for (row, part) in (0..image.height() as i32).zip(frame.chunks_exact_mut(width)) {
-        let _ = image.read_row(row, 0, part);
+// The frame of a source, filled row by row.
+fn rows_of<S: Source<Element = Pixel>>(heap: Global, source: &S) -> Result<Vec<Pixel>, AllocError> {
+    let width = source.width() as usize;
+    let mut frame = vec![in heap; Pixel(0); source.height() as usize * width]?;
+    for (row, part) in (0..source.height() as i32).zip(frame.chunks_exact_mut(width)) {
+        let _ = source.read_row(row, 0, part);
     }
     Ok(frame)
 }
