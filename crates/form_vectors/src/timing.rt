@@ -14,15 +14,13 @@ use values::{Window, value};
 const WINDOWS: usize = 200_000;
 
 pub(crate) fn time(rt: &HostRuntime) -> anyhow::Result<()> {
-    let form = Size::new(3, 3).and_then(|size| median(size)).context("no median")?;
+    let form = Size::new(3, 3)
+        .and_then(|size| median(size))
+        .context("no median")?;
     let windows = windows(rt.alloc())?;
     let (sum, took) = timed(rt, || sum_of_values(&form, &windows))?;
     println!(rt; "value, terms {}: {took} us, sum {sum}", form.len())?;
-    for height in 1..=6 {
-        for width in 1..=4 {
-            time_closing(rt, height, width)?;
-        }
-    }
+    time_closings(rt)?;
     for (height, width) in [(1, 2), (2, 1), (2, 2)] {
         time_medians(rt, &form, height, width)?;
     }
@@ -30,6 +28,7 @@ pub(crate) fn time(rt: &HostRuntime) -> anyhow::Result<()> {
 }
 
 // What a step gives, and the microseconds that it took.
+// As in the program polwenog: a crate of its own for one function would be no plainer.
 fn timed<T: Drop, F: FnOnce() -> T>(rt: &HostRuntime, step: F) -> io::Result<(T, u128)>
     requires { F.pre step }
 {
@@ -61,6 +60,15 @@ fn sum_of_values(form: &Form, windows: &[Window<Pixel>]) -> u64 {
         0,
         |sum, window| sum.wrapping_add(u64::from(value(form, window).0)),
     )
+}
+
+fn time_closings(rt: &HostRuntime) -> anyhow::Result<()> {
+    for height in 1..=6 {
+        for width in 1..=4 {
+            time_closing(rt, height, width)?;
+        }
+    }
+    Ok(())
 }
 
 fn time_closing(rt: &HostRuntime, height: u8, width: u8) -> anyhow::Result<()> {

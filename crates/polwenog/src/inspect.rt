@@ -11,7 +11,7 @@ use std::{fmt, io};
 // Reports on each file named; the first that cannot be read ends it.
 pub(crate) fn inspect(rt: &HostRuntime, paths: Args) -> anyhow::Result<()> {
     let mut tally = Tally::default();
-    each_file(rt, "inspect", paths, |path: &str, bytes: Vec<u8>| {
+    each_file(rt, "inspect", paths, |path, bytes| {
         report(rt, path, bytes, &mut tally)
     })?;
     println!(rt; "{tally}")?;

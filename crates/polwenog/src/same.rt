@@ -9,6 +9,7 @@ use reports::{Marked, Refusal, StoredBytes};
 use sources::Source;
 use std::env::Args;
 use std::fs;
+use std::io::Write;
 
 // The samples that a window is drawn with.
 const LOW: Pixel = Pixel(0);
@@ -19,9 +20,6 @@ const HIGH: Pixel = Pixel(255);
 const MIDDLE_ROW: i32 = HEIGHT as i32 / 2;
 
 const MIDDLE_COLUMN: i32 = WIDTH as i32 / 2;
-
-// The head of an image of 9 rows and 7 columns.
-const HEAD: &[u8] = b"P5\n7 9\n255\n";
 
 const ASKED: &str = "same: give two expressions and perhaps, behind them, --witness FILE";
 
@@ -135,7 +133,7 @@ fn sample_at(witness: &Witness<Pixel>, cell: Cell) -> Pixel {
 // Writes the window as an image.
 fn write_window(rt: &HostRuntime, witness: &Witness<Pixel>, path: &str) -> anyhow::Result<()> {
     let mut bytes = Vec::new(rt.alloc());
-    bytes.extend_from_slice(HEAD)?;
+    write!(bytes, "P5\n{WIDTH} {HEIGHT}\n{HIGH}\n")?;
     for cell in (0..Cell::COUNT).filter_map(Cell::numbered) {
         bytes.push((sample_at(witness, cell).0 & 255) as u8)?;
     }

@@ -8,7 +8,7 @@ use stored::load;
 
 // Shows each stored form named, or says why it is refused.
 pub(crate) fn show_stored(rt: &HostRuntime, paths: Args) -> anyhow::Result<()> {
-    each_file(rt, "stored", paths, |path: &str, bytes: Vec<u8>| {
+    each_file(rt, "stored", paths, |path, bytes| {
         show(rt, path, bytes.as_slice())
     })
 }
