@@ -26,7 +26,7 @@ pub(crate) fn read_whole(rt: &HostRuntime, path: &str) -> io::Result<Vec<u8>> {
     Ok(bytes)
 }
 
-// Hands on the path and the bytes of each file that a command names; the first that cannot be read ends it.
+// Hands on the path and the bytes of each file named; the first that cannot be read ends it.
 pub(crate) fn each_file<F: FnMut(&str, Vec<u8>) -> anyhow::Result<()>>(
     rt: &HostRuntime,
     command: &str,
@@ -47,7 +47,7 @@ pub(crate) fn each_file<F: FnMut(&str, Vec<u8>) -> anyhow::Result<()>>(
     Ok(())
 }
 
-// What was done with a file; where it failed, the error stream says with which file and why, and `ending` is the error.
+// What a step on a file gave; a failure is said on the error stream, and ends in `ending`.
 pub(crate) fn or_named<T>(
     rt: &HostRuntime,
     path: &str,
