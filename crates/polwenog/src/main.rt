@@ -2,17 +2,19 @@
 #![tactic(auto)]
 
 use anyhow::anyhow;
-use std::env;
 use std::io::ErrorKind;
 use std::process::ExitCode;
+use std::{env, io};
 
 mod compile;
 mod file;
 mod inspect;
+mod refused;
 mod same;
 mod stored_form;
 mod tally;
 mod timing;
+mod window;
 
 const USAGE: &str =
     "usage: polwenog compile [EXPR..]  say the form of each expression, or why it is refused;
@@ -42,19 +44,9 @@ examples: polwenog same 'open(2,1)' 'after(dilate(2,1),erode(2,1))'
           polwenog inspect section-014.pgm rig-2.log";
 
 fn run(rt: &HostRuntime) -> anyhow::Result<()> {
-    let mut words = match env::args(rt) {
-        Ok(words) => words,
-        Err(e) if e.kind() == ErrorKind::InvalidData => {
-            return Err(anyhow!(
-                "an argument is no UTF-8 text; other bytes can stand in a line of standard input"
-            ));
-        }
-        Err(e) => return Err(e.into()),
-    };
-    let _ = words.next();
-    let Some(command) = words.next() else {
-        println!(rt; "{USAGE}")?;
-        return Ok(());
+    let mut words = env::args(rt).map_err(unreadable)?;
+    let Some(command) = words.nth(1) else {
+        return usage(rt);
     };
     match command.as_str() {
         "compile" => compile::compile(rt, words),
@@ -62,11 +54,22 @@ fn run(rt: &HostRuntime) -> anyhow::Result<()> {
         "inspect" => inspect::inspect(rt, words),
         "stored" => stored_form::show_stored(rt, words),
         "time" => timing::time(rt, words),
-        "help" | "--help" | "-h" => {
-            println!(rt; "{USAGE}")?;
-            Ok(())
-        }
+        "help" | "--help" | "-h" => usage(rt),
         _ => Err(anyhow!("no such command: run 'polwenog help'")),
+    }
+}
+
+fn usage(rt: &HostRuntime) -> anyhow::Result<()> {
+    println!(rt; "{USAGE}")?;
+    Ok(())
+}
+
+// Why the arguments could not be read.
+fn unreadable(e: io::Error) -> anyhow::Error {
+    if e.kind() == ErrorKind::InvalidData {
+        anyhow!("an argument is no UTF-8 text; other bytes can stand in a line of standard input")
+    } else {
+        anyhow::Error::from(e)
     }
 }
 

@@ -1,31 +1,32 @@
 // Whether two expressions are one filter, and a window that tells them apart where they are not.
-use anyhow::anyhow;
-use comparing::{CompareFault, Comparison, Side, Witness, compare};
+use crate::file::or_named;
+use crate::window::draw;
+use anyhow::{Context, anyhow};
+use comparing::{CompareFault, Comparison, HEIGHT, Side, WIDTH, Witness, compare};
 use elements::Pixel;
-use forms::Form;
+use forms::{Cell, Form};
 use reports::{Marked, Refusal, StoredBytes};
 use sources::Source;
 use std::env::Args;
 use std::fs;
+use std::io::Write;
 
 // The samples that a window is drawn with.
 const LOW: Pixel = Pixel(0);
 
 const HIGH: Pixel = Pixel(255);
 
-// The head of an image of 9 rows and 7 columns.
-const HEAD: &[u8] = b"P5\n7 9\n255\n";
+// The row and the column of a witness's middle.
+const MIDDLE_ROW: i32 = HEIGHT as i32 / 2;
+
+const MIDDLE_COLUMN: i32 = WIDTH as i32 / 2;
 
 const ASKED: &str = "same: give two expressions and perhaps, behind them, --witness FILE";
 
 // Compares two texts; a window that tells them apart is also written to the file, if one is named.
 pub(crate) fn same(rt: &HostRuntime, mut words: Args) -> anyhow::Result<()> {
-    let Some(left) = words.next() else {
-        return Err(anyhow!(ASKED));
-    };
-    let Some(right) = words.next() else {
-        return Err(anyhow!(ASKED));
-    };
+    let left = words.next().context(ASKED)?;
+    let right = words.next().context(ASKED)?;
     let file = witness_file(words)?;
     match compare(left.as_bytes(), right.as_bytes(), LOW, HIGH) {
         Ok(comparison) => tell(rt, &comparison, file),
@@ -41,9 +42,7 @@ fn witness_file(mut words: Args) -> anyhow::Result<Option<String>> {
     let Some(option) = words.next() else {
         return Ok(None);
     };
-    let Some(path) = words.next() else {
-        return Err(anyhow!(ASKED));
-    };
+    let path = words.next().context(ASKED)?;
     if option.as_str() != "--witness" || words.next().is_some() {
         return Err(anyhow!(ASKED));
     }
@@ -57,14 +56,10 @@ fn refuse(
     text: &[u8],
     declined: CompareFault,
 ) -> anyhow::Result<()> {
-    let refusal = Refusal(declined.fault);
-    let marked = Marked {
-        text,
-        place: declined.fault.place(),
-    };
-    println!(rt; "{refusal}")?;
+    let place = declined.fault.place();
+    println!(rt; "{}", Refusal(declined.fault))?;
     println!(rt; "in the {which} expression:")?;
-    println!(rt; "{marked}")?;
+    println!(rt; "{}", Marked { text, place })?;
     Err(anyhow!("same: an expression is refused"))
 }
 
@@ -100,9 +95,11 @@ fn tell_forms(rt: &HostRuntime, comparison: &Comparison<Pixel>) -> anyhow::Resul
 }
 
 fn tell_form(rt: &HostRuntime, which: &str, form: &Form) -> anyhow::Result<()> {
-    let count = form.len();
-    let bytes = StoredBytes(*form);
-    println!(rt; "{which}: number of terms {count}, stored as {bytes}")?;
+    println!(rt;
+        "{which}: number of terms {}, stored as {}",
+        form.len(),
+        StoredBytes(*form)
+    )?;
     Ok(())
 }
 
@@ -113,48 +110,35 @@ fn show(
     witness: &Witness<Pixel>,
 ) -> anyhow::Result<()> {
     println!(rt; "on this window, # for {HIGH} and . for {LOW}:")?;
-    for row in 0..9 {
-        let a = mark(witness, row, 0);
-        let b = mark(witness, row, 1);
-        let c = mark(witness, row, 2);
-        let d = mark(witness, row, 3);
-        let e = mark(witness, row, 4);
-        let f = mark(witness, row, 5);
-        let g = mark(witness, row, 6);
-        println!(rt; "    {a} {b} {c} {d} {e} {f} {g}")?;
-    }
+    draw(rt, |cell| {
+        if sample_at(witness, cell) == HIGH {
+            '#'
+        } else {
+            '.'
+        }
+    })?;
     let first = witness.sample(&comparison.left);
     let second = witness.sample(&comparison.right);
     println!(rt; "the first gives {first} at its centre, the second {second}")?;
     Ok(())
 }
 
-fn mark(witness: &Witness<Pixel>, row: i32, column: i32) -> &'static str {
-    match witness.read(row, column) {
-        Ok(sample) if sample == HIGH => "#",
-        _ => ".",
-    }
+// The sample at a cell, where the window lies on the whole frame.
+fn sample_at(witness: &Witness<Pixel>, cell: Cell) -> Pixel {
+    let row = MIDDLE_ROW.saturating_add(cell.row());
+    let column = MIDDLE_COLUMN.saturating_add(cell.column());
+    witness.read(row, column).unwrap_or(LOW)
 }
 
 // Writes the window as an image.
 fn write_window(rt: &HostRuntime, witness: &Witness<Pixel>, path: &str) -> anyhow::Result<()> {
     let mut bytes = Vec::new(rt.alloc());
-    bytes.extend_from_slice(HEAD)?;
-    for number in 0..63 {
-        let sample = match witness.read(number / 7, number % 7) {
-            Ok(Pixel(sample)) => (sample & 255) as u8,
-            Err(_) => 0,
-        };
-        bytes.push(sample)?;
+    write!(bytes, "P5\n{WIDTH} {HEIGHT}\n{HIGH}\n")?;
+    for cell in (0..Cell::COUNT).filter_map(Cell::numbered) {
+        bytes.push((sample_at(witness, cell).0 & 255) as u8)?;
     }
-    match fs::write(rt, path, bytes.as_slice()) {
-        Ok(()) => {
-            println!(rt; "window written to {path}")?;
-            Ok(())
-        }
-        Err(e) => {
-            eprintln!(rt; "polwenog: {path}: {e}")?;
-            Err(anyhow!("same: the window could not be written"))
-        }
-    }
+    let written = fs::write(rt, path, bytes.as_slice());
+    or_named(rt, path, written, "same: the window could not be written")?;
+    println!(rt; "window written to {path}")?;
+    Ok(())
 }

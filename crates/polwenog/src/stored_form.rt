@@ -1,34 +1,27 @@
 // Stored forms, shown as windows that a person can read.
-use crate::file::read_whole;
-use anyhow::anyhow;
-use forms::{Cell, Form, Term};
+use crate::file::each_file;
+use crate::refused::Refused;
+use crate::window::draw;
+use forms::{Form, Term};
 use std::env::Args;
 use stored::load;
 
 // Shows each stored form named, or says why it is refused.
 pub(crate) fn show_stored(rt: &HostRuntime, paths: Args) -> anyhow::Result<()> {
-    let mut files = 0u64;
-    for path in paths {
-        let bytes = match read_whole(rt, path.as_str()) {
-            Ok(bytes) => bytes,
-            Err(e) => {
-                eprintln!(rt; "polwenog: {path}: {e}")?;
-                return Err(anyhow!("not every file could be read"));
-            }
-        };
-        files = files.saturating_add(1);
-        match load(bytes.as_slice()) {
-            Ok(form) => show_form(rt, path.as_str(), &form)?,
-            Err(fault) => {
-                let number = fault.number();
-                println!(rt; "{path}: refused {number}: {fault}")?;
-            }
+    each_file(rt, "stored", paths, |path, bytes| {
+        show(rt, path, bytes.as_slice())
+    })
+}
+
+fn show(rt: &HostRuntime, path: &str, bytes: &[u8]) -> anyhow::Result<()> {
+    match load(bytes) {
+        Ok(form) => show_form(rt, path, &form),
+        Err(reason) => {
+            let number = reason.number();
+            println!(rt; "{path}: {}", Refused { number, reason })?;
+            Ok(())
         }
     }
-    if files == 0 {
-        return Err(anyhow!("stored: name at least one file"));
-    }
-    Ok(())
 }
 
 fn show_form(rt: &HostRuntime, path: &str, form: &Form) -> anyhow::Result<()> {
@@ -36,8 +29,7 @@ fn show_form(rt: &HostRuntime, path: &str, form: &Form) -> anyhow::Result<()> {
     println!(rt; "{path}: form, number of terms: {count}")?;
     for i in 0..count {
         if let Some(term) = form.term(i) {
-            let number = i + 1;
-            println!(rt; "  term {number}")?;
+            println!(rt; "  term {}", i + 1)?;
             show_term(rt, term)?;
         }
     }
@@ -46,23 +38,13 @@ fn show_form(rt: &HostRuntime, path: &str, form: &Form) -> anyhow::Result<()> {
 
 // The window of a term: `#` for its cells, `+` for the place itself where it is none of them.
 fn show_term(rt: &HostRuntime, term: Term) -> anyhow::Result<()> {
-    for row in -4..=4 {
-        let a = mark(term, row, -3);
-        let b = mark(term, row, -2);
-        let c = mark(term, row, -1);
-        let d = mark(term, row, 0);
-        let e = mark(term, row, 1);
-        let f = mark(term, row, 2);
-        let g = mark(term, row, 3);
-        println!(rt; "    {a} {b} {c} {d} {e} {f} {g}")?;
-    }
-    Ok(())
-}
-
-fn mark(term: Term, row: i32, column: i32) -> &'static str {
-    match Cell::new(row, column) {
-        Some(cell) if term.contains(cell) => "#",
-        _ if row == 0 && column == 0 => "+",
-        _ => ".",
-    }
+    draw(rt, |cell| {
+        if term.contains(cell) {
+            '#'
+        } else if cell.row() == 0 && cell.column() == 0 {
+            '+'
+        } else {
+            '.'
+        }
+    })
 }

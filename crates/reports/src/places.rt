@@ -46,8 +46,7 @@ fn write_near<W: fmt::Write>(
         f.write_str(LEFT_OUT)?;
     }
     for byte in text.iter().take(back).skip(front) {
-        let shown = printing(*byte);
-        write!(f, "{shown}")?;
+        write!(f, "{}", printing(*byte))?;
     }
     if text.len() > back {
         f.write_str(LEFT_OUT)?;
@@ -62,12 +61,9 @@ fn write_caret<W: fmt::Write>(
     f: &mut fmt::Formatter<W>,
 ) -> fmt::Result {
     if front > 0 {
-        f.write_str("  ")?;
+        write!(f, "{:1$}", "", LEFT_OUT.len())?;
     }
-    for _ in front..place {
-        f.write_str(" ")?;
-    }
-    f.write_str("^")
+    write!(f, "{:1$}^", "", place.saturating_sub(front))
 }
 
 // A byte as a character that a terminal can show.

@@ -1,11 +1,11 @@
 // What compiling a text gave, as one line.
 use expressions::Fault;
-use forms::Form;
+use forms::{Cell, Form, MOST_TERMS};
 use std::fmt;
 use stored::save;
 
-// The bytes of a form of 256 terms: 12 bits, and 63 for each term.
-const MOST_BYTES: usize = 2018;
+// The bytes of a form with the most terms: 12 bits, and one for each cell of each term.
+const MOST_BYTES: usize = (12 + MOST_TERMS * Cell::COUNT as usize + 7) / 8;
 
 /// What compiling a text gave: `accepted`, the number of terms and the stored bytes, or `refused` and why.
 #[derive(Clone, Copy)]
@@ -14,15 +14,8 @@ pub struct Report(pub Result<Form, Fault>);
 impl fmt::Display for Report {
     fn fmt<W: fmt::Write>(&self, f: &mut fmt::Formatter<W>) -> fmt::Result {
         match self.0 {
-            Ok(form) => {
-                let count = form.len();
-                let bytes = StoredBytes(form);
-                write!(f, "accepted {count} {bytes}")
-            }
-            Err(fault) => {
-                let refusal = Refusal(fault);
-                write!(f, "{refusal}")
-            }
+            Ok(form) => write!(f, "accepted {} {}", form.len(), StoredBytes(form)),
+            Err(fault) => write!(f, "{}", Refusal(fault)),
         }
     }
 }
@@ -34,10 +27,13 @@ pub struct Refusal(pub Fault);
 impl fmt::Display for Refusal {
     fn fmt<W: fmt::Write>(&self, f: &mut fmt::Formatter<W>) -> fmt::Result {
         let fault = self.0;
-        let number = fault.number();
-        let place = fault.place();
-        let part = fault.part();
-        write!(f, "refused {number} at {place} ({part}): {fault}")
+        write!(
+            f,
+            "refused {} at {} ({}): {fault}",
+            fault.number(),
+            fault.place(),
+            fault.part()
+        )
     }
 }
 
@@ -52,7 +48,6 @@ impl fmt::Display for StoredBytes {
             return Err(fmt::Error);
         };
         for byte in bytes.iter().take(size) {
-            let byte = *byte;
             write!(f, "{byte:02x}")?;
         }
         Ok(())
