@@ -7,11 +7,11 @@ ghost use Rattle.std.proofs.Common.{rules};
 use crate::declined::Declined;
 use crate::header::Header;
 use crate::image::Image;
+use crate::reading;
 use crate::refusal::ImageRefusal;
 use crate::rows::row_into;
-use crate::{EDGE_MARGIN, reading};
 use elements::Pixel;
-use sources::{Extent, ReadRefusal, Source, nearest};
+use sources::{EDGE_MARGIN, ReadRefusal, Source};
 
 impl Image {
     /// Takes the bytes of a PGM file for an image; declined, with the bytes given back, by the first
@@ -66,37 +66,18 @@ impl Source for Image {
     }
 
     fn read(&self, row: i32, column: i32) -> Result<Pixel, ReadRefusal> {
-        let layout = self.layout;
-        let height = layout.header.height;
-        let width = layout.header.width;
-        let extent = Extent {
-            height,
-            width,
-            margin: EDGE_MARGIN,
-        };
-        if !extent.holds(row, column) {
-            return Err(ReadRefusal::NotReadable);
-        }
-        Ok(self.at(nearest(height, row), nearest(width, column)))
+        let (row, column) = self.extent().place(row, column)?;
+        Ok(self.at(row, column))
     }
 
     fn read_row(&self, row: i32, first: i32, out: &mut [Pixel]) -> Result<(), ReadRefusal> {
+        let row = self.extent().place_row(row, first, out.len())?;
         let layout = self.layout;
-        let height = layout.header.height;
         let width = layout.header.width;
-        let extent = Extent {
-            height,
-            width,
-            margin: EDGE_MARGIN,
-        };
-        if !extent.holds_row(row, first, out.len()) {
-            return Err(ReadRefusal::NotReadable);
-        }
         let start = layout.start;
         let bytes = self.bytes.as_slice();
-        let at = nearest(height, row) as usize * width as usize;
-        let wide = layout.header.wide();
-        row_into(&bytes[start..], wide, at, width, first, out);
+        let at = row as usize * width as usize;
+        row_into(&bytes[start..], layout.header.wide(), at, width, first, out);
         Ok(())
     }
 }

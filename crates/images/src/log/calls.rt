@@ -4,13 +4,11 @@ ghost use Rattle.images.specs.Records.{big_endian, event_at, record_bytes};
 ghost use Rattle.images.specs.Parsed.{events, LogOutcome};
 ghost use Rattle.std.proofs.Common.{rules};
 
-use crate::EDGE_MARGIN;
 use crate::declined::Declined;
 use crate::log::Log;
 use crate::refusal::LogRefusal;
-use crate::rows::fill;
 use elements::Event;
-use sources::{Extent, LONGEST, ReadRefusal, Source, nearest};
+use sources::{EDGE_MARGIN, LONGEST, ReadRefusal, Source};
 
 // The bytes of a record: eight of key, four of stamp.
 const RECORD_BYTES: usize = 12;
@@ -85,28 +83,13 @@ impl Source for Log {
     }
 
     fn read(&self, row: i32, column: i32) -> Result<Event, ReadRefusal> {
-        let extent = Extent {
-            height: self.count,
-            width: 1,
-            margin: EDGE_MARGIN,
-        };
-        if !extent.holds(row, column) {
-            return Err(ReadRefusal::NotReadable);
-        }
-        Ok(self.at(nearest(self.count, row)))
+        let (row, _) = self.extent().place(row, column)?;
+        Ok(self.at(row))
     }
 
     fn read_row(&self, row: i32, first: i32, out: &mut [Event]) -> Result<(), ReadRefusal> {
-        let extent = Extent {
-            height: self.count,
-            width: 1,
-            margin: EDGE_MARGIN,
-        };
-        let count = out.len();
-        if !extent.holds_row(row, first, count) {
-            return Err(ReadRefusal::NotReadable);
-        }
-        fill(out, 0, count, self.at(nearest(self.count, row)));
+        let row = self.extent().place_row(row, first, out.len())?;
+        out.fill(self.at(row));
         Ok(())
     }
 }

@@ -11,12 +11,3 @@ returns-then-within c =
           ((omega (arith, ints, v.0), omega (arith, ints, v.1)), (omega (arith, ints, u.0), omega (arith, ints, u.1))),
       λ h. c.spans.ensures.1 (λ k l. let u = (h k l).1 in (omega (arith, ints, u.0), omega (arith, ints, u.1))),
     )
-
-pub returns-else-within : goal.returns-else-within
-returns-else-within c =
-    let f : SFits w32 c.args.self.margin = search rules in (
-      λ e. let z : ◌≡◌ {A = ℕ} 0 1 = cc in absurd (omega arith),
-      λ h.
-          let w = (h 0 (omega arith)).0 in
-          c.within.ensures.1 (omega (arith, ints, w.0), omega (arith, ints, w.1)),
-    )
