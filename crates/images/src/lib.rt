@@ -5,6 +5,7 @@ mod declined;
 mod header;
 mod image;
 mod log;
+mod raster;
 mod reading;
 mod refusal;
 mod rows;

@@ -7,9 +7,9 @@ ghost use Rattle.std.proofs.Common.{rules};
 use crate::declined::Declined;
 use crate::header::Header;
 use crate::image::Image;
+use crate::raster::Raster;
 use crate::reading;
 use crate::refusal::ImageRefusal;
-use crate::rows::row_into;
 use elements::Pixel;
 use sources::{EDGE_MARGIN, ReadRefusal, Source};
 
@@ -33,16 +33,25 @@ impl Image {
         self.layout.header
     }
 
+    fn raster(&self) -> Raster<'_>
+        ensures header { result.header ≡ header_of self.now }
+        ensures bytes { result.bytes.now ≡ raster self.now }
+    {
+        let layout = self.layout;
+        let bytes = self.bytes.as_slice();
+        Raster {
+            header: layout.header,
+            bytes: &bytes[layout.start..],
+        }
+    }
+
     // The sample at a place of the frame.
     fn at(&self, row: u32, column: u32) -> Pixel
         requires { (row < (header_of self.now).height) × (column < (header_of self.now).width) }
         ensures { result ≡ pixel (sample_at (wide (header_of self.now)) (raster self.now) (row * (header_of self.now).width + column)) }
     {
-        let layout = self.layout;
-        let start = layout.start;
-        let bytes = self.bytes.as_slice();
-        let k = row as usize * layout.header.width as usize + column as usize;
-        Pixel(reading::sample(&bytes[start..], layout.header.wide(), k))
+        let width = self.layout.header.width as usize;
+        Pixel(self.raster().sample(row as usize * width + column as usize))
     }
 }
 
@@ -72,12 +81,7 @@ impl Source for Image {
 
     fn read_row(&self, row: i32, first: i32, out: &mut [Pixel]) -> Result<(), ReadRefusal> {
         let row = self.extent().place_row(row, first, out.len())?;
-        let layout = self.layout;
-        let width = layout.header.width;
-        let start = layout.start;
-        let bytes = self.bytes.as_slice();
-        let at = row as usize * width as usize;
-        row_into(&bytes[start..], layout.header.wide(), at, width, first, out);
+        self.raster().row_into(row, first, out);
         Ok(())
     }
 }

@@ -16,19 +16,6 @@ const RECORD_BYTES: usize = 12;
 // A log has one column.
 const WIDTH: u32 = 1;
 
-// The number that `count` bytes from `at` on write, most significant first.
-fn big_endian(bytes: &[u8], at: usize, count: usize) -> u64
-    requires { (at + count ≤ length bytes.now) × (count ≤ 8) }
-    ensures value { result ≡ big_endian bytes.now at count }
-    ensures bound { result < 256 ^ count }
-{
-    let mut sum = 0u64;
-    for k in 0..count {
-        sum = sum * 256 + u64::from(bytes[at + k]);
-    }
-    sum
-}
-
 impl Log {
     /// Takes the bytes of a log file for a log; declined, with the bytes given back, where they are
     /// not 1 to 16,384 whole records.
@@ -55,11 +42,13 @@ impl Log {
         requires { row < self.now.count }
         ensures { result ≡ event_at self.now.bytes.items row }
     {
-        let bytes = self.bytes.as_slice();
-        let start = RECORD_BYTES * row as usize;
-        let key = big_endian(bytes, start, 8);
-        let stamp = big_endian(bytes, start + 8, 4) as u32;
-        Event { key, stamp }
+        let record = &self.bytes.as_slice()[RECORD_BYTES * row as usize..];
+        let (key, rest) = record.split_first_chunk().unwrap();
+        let (stamp, _) = rest.split_first_chunk().unwrap();
+        Event {
+            key: u64::from_be_bytes(*key),
+            stamp: u32::from_be_bytes(*stamp),
+        }
     }
 }
 

@@ -3,9 +3,10 @@ use Rattle.sources.specs.Edges.{nearest}
 use Rattle.sources.proofs.Rows.{placed, row_below}
 use Rattle.std.proofs.lemmas.Int.{to_z-of_z}
 use Rattle.sources.specs.Meaning.{Ranges}
+use Rattle.images.specs.declared.header.Header.{Header}
 use Rattle.images.specs.declared.image.Image.{Image}
 use Rattle.images.specs.Samples.{pixel, sample_at, wide}
-use Rattle.images.proofs.Places.{row_fits, sample_is}
+use Rattle.images.proofs.Places.{shown_same}
 use Rattle.images.specs.Parsed.{shown}
 use Rattle.images.proofs.image.calls.ImageSource.read_row.Goals as goal
 
@@ -38,26 +39,16 @@ returns-clause-filled c =
     let m = shown c.args.self.now in
     let e = c.extent.result in
     let p = placed m c.args.row c.args.first (length c.args.out.now) c.ranges.row c.ranges.first c.place_row.result e.height e.width e.margin c.extent.ensures.height c.extent.ensures.width c.extent.ensures.margin (c.place_row.ensures.shown, c.place_row.ensures.refused) in
-    let i = c.args.self.now in
-    let h = i.layout.header in
-    let vs = vec_items i.bytes in
-    let raster = drop i.layout.start vs in
     λ r k l d.
     let a = p.0 r in
     let w = c.in_ok-row.was in
-    let row : c.in_ok-row.row ≡ nearest h.height c.args.row = cc in
-    c.row_into.ensures k d l
-    ∙ ap pixel (sample_is c.as_slice-bytes.result.now vs i.layout c.wide.result c.as_slice-bytes.ensures.value c.wide.ensures (c.in_ok-row.row * h.width + nearest h.width (to_z w32 (of_z w32 c.args.first) +ℤ pos k)) _ refl)
-    ∙ ap (λ (j : ℕ). pixel (sample_at (wide h) raster (j * h.width + nearest h.width (to_z w32 (of_z w32 c.args.first) +ℤ pos k)))) row
-    ∙ ap (λ (z : ℤ). pixel (sample_at (wide h) raster (nearest h.height c.args.row * h.width + nearest h.width (z +ℤ pos k)))) (to_z-of_z w32 c.args.first c.ranges.first)
+    let row : c.in_ok-row.row ≡ nearest m.height c.args.row = cc in
+    c.row_into.ensures k d l ∙ shown_same c.raster.ensures.header c.raster.ensures.bytes row (ap (λ (z : ℤ). z +ℤ pos k) (to_z-of_z w32 c.args.first c.ranges.first))
 
 pub row_into-requires : goal.row_into-requires
 row_into-requires c =
     let m = shown c.args.self.now in
     let e = c.extent.result in
     let p = placed m c.args.row c.args.first (length c.args.out.now) c.ranges.row c.ranges.first c.place_row.result e.height e.width e.margin c.extent.ensures.height c.extent.ensures.width c.extent.ensures.margin (c.place_row.ensures.shown, c.place_row.ensures.refused) in
-    let i = c.args.self.now in
-    let below = row_below m c.args.row c.args.first (length c.args.out.now) (shown_ranges i) c.place_row.result c.in_ok-row.row p c.in_ok-row.was in (
-      i.columns.0,
-      row_fits c.as_slice-bytes.result.now (vec_items i.bytes) i.layout c.wide.result c.as_slice-bytes.ensures.value c.wide.ensures c.in_ok-row.row i.whole below,
-    )
+    let below = row_below m c.args.row c.args.first (length c.args.out.now) (shown_ranges c.args.self.now) c.place_row.result c.in_ok-row.row p c.in_ok-row.was in
+    omega (arith, below, ap (λ (h : Header). h.height) c.raster.ensures.header)
