@@ -1,5 +1,5 @@
 // The reading of an image: its header, its length, its samples.
-ghost use Rattle.std.specs.Prelude.{◌≡◌, ◌+◌, ◌*◌, ◌≤◌, length, IfSome, IfOk};
+ghost use Rattle.std.specs.Prelude.{◌≡◌, ◌+◌, ◌*◌, ◌≤◌, ℕ, Bool, length, IfSome, IfOk};
 ghost use Rattle.std.specs.List.{prefix_len};
 ghost use Rattle.images.specs.Header.{white, digit, decimal as decimal_of, most_digits};
 ghost use Rattle.images.specs.Fits.{Fits};
@@ -22,20 +22,14 @@ fn is_white(b: u8) -> bool
     matches!(b, b' ' | b'\t' | b'\r' | b'\n')
 }
 
-// How many bytes of white space come first.
-fn leading_white(bytes: &[u8]) -> usize
-    ensures count { result ≡ prefix_len white bytes.now }
+// How many bytes pass a test before the first that does not.
+fn leading<F: Fn(u8) -> bool>(bytes: &[u8], passes: F) -> usize
+    requires { F.IsAlwaysCallable passes }
+    ensures count { (p : ℕ → Bool) → ((b : ℕ) (r : Bool) → F.post passes b r → r ≡ p b)
+        → result ≡ prefix_len p bytes.now }
     ensures within { result ≤ length bytes.now }
 {
-    bytes.iter().take_while(|b| is_white(**b)).count()
-}
-
-// How many digits come first.
-fn leading_digits(bytes: &[u8]) -> usize
-    ensures count { result ≡ prefix_len digit bytes.now }
-    ensures within { result ≤ length bytes.now }
-{
-    bytes.iter().take_while(|b| b.is_ascii_digit()).count()
+    bytes.iter().take_while(|b| passes(**b)).count()
 }
 
 // The number that a few digits write.
@@ -56,8 +50,8 @@ fn field(bytes: &[u8], at: usize) -> Option<(u32, usize)>
     ensures within { IfSome result (λ p. p.1 ≤ length bytes.now) }
     ensures value { result ≡ field_at bytes.now at }
 {
-    let start = at + leading_white(&bytes[at..]);
-    let end = start + leading_digits(&bytes[start..]);
+    let start = at + leading(&bytes[at..], is_white);
+    let end = start + leading(&bytes[start..], |b| b.is_ascii_digit());
     if start == at || end == start || end - start > MOST_DIGITS {
         return None;
     }
@@ -73,27 +67,23 @@ fn header(bytes: &[u8]) -> Option<Layout>
     let (width, at) = field(bytes, 2)?;
     let (height, at) = field(bytes, at)?;
     let (maximum, at) = field(bytes, at)?;
-    if at < bytes.len() && is_white(bytes[at]) {
-        Some(Layout {
-            header: Header {
-                height,
-                width,
-                maximum,
-            },
-            start: at + 1,
-        })
-    } else {
-        None
-    }
+    let _ = bytes.get(at).filter(|b| is_white(**b))?;
+    Some(Layout {
+        header: Header {
+            height,
+            width,
+            maximum,
+        },
+        start: at + 1,
+    })
 }
 
 fn in_range(header: Header) -> bool
     ensures { result ≡ in_range header }
 {
-    1 <= header.height
-        && header.height <= LONGEST
-        && (1 <= header.width && header.width <= LONGEST)
-        && (1 <= header.maximum && header.maximum <= HIGHEST_MAXIMUM)
+    (1..=LONGEST).contains(&header.height)
+        && (1..=LONGEST).contains(&header.width)
+        && (1..=HIGHEST_MAXIMUM).contains(&header.maximum)
 }
 
 // What follows the header is checked: the ranges, the length, the samples.

@@ -1,5 +1,5 @@
 // What can be asked of an image.
-ghost use Rattle.std.specs.Prelude.{◌≡◌, ◌+◌, ◌*◌, ◌<◌, Ok, Err};
+ghost use Rattle.std.specs.Prelude.{◌≡◌, ◌+◌, ◌*◌, ◌<◌, MatchResult};
 ghost use Rattle.images.specs.Samples.{pixel, sample_at, wide};
 ghost use Rattle.images.specs.Parsed.{header as header_of, raster, shown, ImageOutcome};
 ghost use Rattle.std.proofs.Common.{rules};
@@ -17,7 +17,7 @@ impl Image {
     /// Takes the bytes of a PGM file for an image; declined, with the bytes given back, by the first
     /// rule that they break.
     pub fn parse(bytes: Vec<u8>) -> Result<Image, Declined<ImageRefusal>>
-        ensures kept { elim result [ Ok i ↦ i.bytes ≡ bytes | Err d ↦ d.bytes ≡ bytes ] }
+        ensures kept { MatchResult result (λ i. i.bytes ≡ bytes) (λ d. d.bytes ≡ bytes) }
         ensures outcome { ImageOutcome bytes.items result }
     {
         match reading::survey(bytes.as_slice()) {
@@ -47,7 +47,8 @@ impl Image {
 
     // The sample at a place of the frame.
     fn at(&self, row: u32, column: u32) -> Pixel
-        requires { (row < (header_of self.now).height) × (column < (header_of self.now).width) }
+        requires row { row < (header_of self.now).height }
+        requires column { column < (header_of self.now).width }
         ensures { result ≡ pixel (sample_at (wide (header_of self.now)) (raster self.now) (row * (header_of self.now).width + column)) }
     {
         let width = self.layout.header.width as usize;

@@ -1,7 +1,7 @@
 // What can be asked of a log.
-ghost use Rattle.std.specs.Prelude.{◌≡◌, ◌+◌, ◌*◌, ◌^◌, ◌<◌, ◌≤◌, length, Ok, Err};
-ghost use Rattle.images.specs.Records.{big_endian, event_at, record_bytes};
-ghost use Rattle.images.specs.Parsed.{events, LogOutcome};
+ghost use Rattle.std.specs.Prelude.{◌≡◌, ◌<◌, MatchResult};
+ghost use Rattle.images.specs.Records.{event_at};
+ghost use Rattle.images.specs.Parsed.{count, events, LogOutcome};
 ghost use Rattle.std.proofs.Common.{rules};
 
 use crate::declined::Declined;
@@ -20,26 +20,22 @@ impl Log {
     /// Takes the bytes of a log file for a log; declined, with the bytes given back, where they are
     /// not 1 to 16,384 whole records.
     pub fn parse(bytes: Vec<u8>) -> Result<Log, Declined<LogRefusal>>
-        ensures kept { elim result [ Ok l ↦ l.bytes ≡ bytes | Err d ↦ d.bytes ≡ bytes ] }
+        ensures kept { MatchResult result (λ l. l.bytes ≡ bytes) (λ d. d.bytes ≡ bytes) }
         ensures outcome { LogOutcome bytes.items result }
     {
-        let length = bytes.len();
-        let count = length / RECORD_BYTES;
-        if count < 1 || count > LONGEST as usize || length % RECORD_BYTES != 0 {
+        let count = bytes.len() / RECORD_BYTES;
+        if count < 1 || count > LONGEST as usize || bytes.len() % RECORD_BYTES != 0 {
             return Err(Declined {
                 bytes,
                 refusal: LogRefusal::NotRecords,
             });
         }
-        Ok(Log {
-            bytes,
-            count: count as u32,
-        })
+        Ok(Log { bytes })
     }
 
     // The event in a record.
     fn at(&self, row: u32) -> Event
-        requires { row < self.now.count }
+        requires { row < count self.now }
         ensures { result ≡ event_at self.now.bytes.items row }
     {
         let record = &self.bytes.as_slice()[RECORD_BYTES * row as usize..];
@@ -60,7 +56,7 @@ impl Source for Log {
     ghost ranges = { Prim.search rules };
 
     fn height(&self) -> u32 {
-        self.count
+        (self.bytes.len() / RECORD_BYTES) as u32
     }
 
     fn width(&self) -> u32 {
