@@ -18,9 +18,9 @@ impl<'a> Raster<'a> {
     ghost use Rattle.images.specs.Reading.{highest as highest_of};
 
     // Sample `k`; of two bytes the more significant comes first.
-    pub(crate) fn sample(&self, k: usize) -> u16
-        requires { k < self.now.header.height * self.now.header.width }
-        ensures { result ≡ sample_at (wide self.now.header) self.now.bytes.now k }
+    pub(crate) fn sample(self, k: usize) -> u16
+        requires { k < self.header.height * self.header.width }
+        ensures { result ≡ sample_at (wide self.entry.header) self.entry.bytes.now k }
     {
         if self.header.wide() {
             u16::from_be_bytes([self.bytes[2 * k], self.bytes[2 * k + 1]])
@@ -30,8 +30,8 @@ impl<'a> Raster<'a> {
     }
 
     // The highest sample.
-    pub(crate) fn highest(&self) -> u16
-        ensures { result ≡ highest_of (wide self.now.header) self.now.bytes.now (self.now.header.height * self.now.header.width) }
+    pub(crate) fn highest(self) -> u16
+        ensures { result ≡ highest_of (wide self.entry.header) self.entry.bytes.now (self.entry.header.height * self.entry.header.width) }
     {
         let count = self.header.height as usize * self.header.width as usize;
         let mut top = 0;

@@ -10,10 +10,10 @@ impl<'a> Raster<'a> {
     ghost use Rattle.images.specs.Samples.{wide, pixel, sample_at};
 
     // Writes a row, from the column `first` on, with its edges repeated.
-    pub(crate) fn row_into(&self, row: u32, first: i32, out: &mut [Pixel])
-        requires { row < self.now.header.height }
+    pub(crate) fn row_into(self, row: u32, first: i32, out: &mut [Pixel])
+        requires { row < self.header.height }
         ensures { (k : ℕ) (d : Pixel) → k < length out.old → slice_index_or out.new k d
-            ≡ pixel (sample_at (wide self.now.header) self.now.bytes.now (row * self.now.header.width + nearest self.now.header.width (first +ℤ pos k))) }
+            ≡ pixel (sample_at (wide self.entry.header) self.entry.bytes.now (row * self.entry.header.width + nearest self.entry.header.width (first +ℤ pos k))) }
     {
         let width = self.header.width;
         let at = row as usize * width as usize;

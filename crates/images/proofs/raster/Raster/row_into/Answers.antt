@@ -9,7 +9,7 @@ use Rattle.images.proofs.raster.Raster.row_into.Goals as goal
 
 pub returns : goal.returns
 returns c =
-    let i = c.args.self.now in
+    let i = c.args.self in
     let at = c.args.row * i.header.width in
     let f : ℕ → Pixel = λ k. pixel (sample_at (wide i.header) i.bytes.now (at + k)) in
     let spans = subst (λ (z : ℤ). Spanned i.header.width z (length c.args.out.now) c.of-span.result) (to_z-of_z w32 c.args.first c.ranges.first) c.of-span.ensures in
