@@ -1,5 +1,6 @@
 -- Frames in reading order.
-use Rattle.std.proofs.Common.{◌≡◌, ℕ, ◌+◌, ◌-◌, ◌*◌, ◌/◌, ◌%◌, ◌<◌, Bool, true, false, List, get_or, ℤ, pos, ◌≤ℤ◌, sym, ap, ◌∙◌, subst, inl, inr, mul-le-mul_right, suc-mul, mul_comm, add-mul, zero-add, arith}
+use Rattle.std.proofs.Common.{◌≡◌, ℕ, ◌+◌, ◌-◌, ◌*◌, ◌/◌, ◌%◌, ◌<◌, Bool, true, false, List, get_or, Some, None, Ok, Err, Option, Result, ℤ, pos, ◌≤ℤ◌, sym, ap, ◌∙◌, subst, inl, inr, mul-le-mul_right, suc-mul, mul_comm, add-mul, zero-add, arith}
+use Rattle.std.specs.Result.{result_ok}
 use Rattle.std.proofs.lemmas.Int.{ints, by_lt_z}
 use Rattle.std.proofs.lemmas.Nat.{div-add-mod', mul-add-lt, div-mul-add, mod-mul-add, div_below, mod_below}
 use Rattle.std.proofs.lemmas.Bool.{cases_lt}
@@ -9,6 +10,13 @@ use Rattle.extremes.specs.declared.lead.Lead.{Lead}
 use Rattle.extremes.specs.Leads.{Leads}
 use Rattle.extremes.specs.Leads.{element_in_order}
 use Rattle.extremes.specs.First.{Before, First}
+
+-- what was declined is not taken by `ok`, and what was not is
+pub err_not_some : {T E : Type 0} {r : Result T E} {e : E} {o : Option T} {x : T} → r ≡ Err e → o ≡ result_ok r → o ≡ Some x → ⊥
+err_not_some {x = x} p q s = let n : None ≡ Some x = sym (q ∙ ap result_ok p) ∙ s in cc
+
+pub ok_not_none : {T E : Type 0} {r : Result T E} {x : T} {o : Option T} → r ≡ Ok x → o ≡ result_ok r → o ≡ None → ⊥
+ok_not_none {x = x} p q s = let n : Some x ≡ None = sym (q ∙ ap result_ok p) ∙ s in cc
 
 module _ {E : Type 0} (m : Meaning E) (q : Ranges m) where
   pub origin_margin : Readable m (pos 0) (pos 0) → pos 0 ≤ℤ m.margin
