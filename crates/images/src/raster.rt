@@ -35,6 +35,7 @@ impl<'a> Raster<'a> {
     {
         let count = self.header.height as usize * self.header.width as usize;
         let mut top = 0;
+        // A loop: of `map` and `max` over the places, the goal `returns` does not close.
         for k in 0..count {
             top = top.max(self.sample(k));
         }

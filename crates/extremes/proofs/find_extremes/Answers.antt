@@ -1,6 +1,5 @@
-use Rattle.std.proofs.Common.{◌≡◌, ℕ, ◌+◌, ◌*◌, ◌<◌, length, get_or, pos, ◌≤ℤ◌, is_err, sym, ap, ◌∙◌, arith, w32, to_z}
+use Rattle.std.proofs.Common.{◌≡◌, ℕ, ◌+◌, ◌*◌, ◌<◌, length, get_or, pos, ◌≤ℤ◌, arith, w32, to_z}
 use Rattle.std.proofs.lemmas.Int.{to_z_pos}
-use Rattle.std.proofs.lemmas.Bool.{both_ways}
 use Rattle.sources.specs.Meaning.{Ranges}
 use Rattle.extremes.specs.First.{turned}
 use Rattle.extremes.specs.Leads.{element_in_order}

@@ -1,4 +1,4 @@
-use Rattle.std.proofs.Common.{◌≡◌, ℕ, ◌+◌, length, ◌∙◌, subst, arith, rules}
+use Rattle.std.proofs.Common.{◌≡◌, ℕ, length, ◌∙◌, subst, arith, rules}
 use Rattle.extremes.specs.Leads.{Scans}
 use Rattle.extremes.specs.First.{turned}
 use Rattle.extremes.proofs.Steps.{leads_turn}

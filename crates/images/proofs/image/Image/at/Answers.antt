@@ -1,6 +1,5 @@
-use Rattle.std.proofs.Common.{ap, arith}
+use Rattle.std.proofs.Common.{arith}
 use Rattle.std.proofs.lemmas.Nat.{mul-add-lt}
-use Rattle.images.specs.declared.header.Header.{Header}
 use Rattle.images.proofs.image.Image.at.Goals as goal
 
 pub sample-requires : goal.sample-requires

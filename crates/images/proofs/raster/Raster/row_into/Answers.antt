@@ -1,4 +1,4 @@
-use Rattle.std.proofs.Common.{◌≡◌, ℕ, ◌+◌, ◌-◌, ◌*◌, ◌<◌, List, length, get_or, replicate, ℤ, subst, mul-le-mul_right, suc-mul, ap, ◌∙◌, arith, w32}
+use Rattle.std.proofs.Common.{◌≡◌, ℕ, ◌+◌, ◌-◌, ◌*◌, List, length, get_or, replicate, ℤ, subst, mul-le-mul_right, suc-mul, ap, ◌∙◌, arith, w32}
 use Rattle.std.proofs.lemmas.List.{get_or-replicate}
 use Rattle.std.proofs.lemmas.Int.{to_z-of_z}
 use Rattle.elements.specs.declared.pixel.Pixel.{Pixel}

@@ -1,4 +1,4 @@
-use Rattle.std.proofs.Common.{◌≡◌, ℕ, arith, w32, SFits, rules}
+use Rattle.std.proofs.Common.{arith, w32, SFits, rules}
 use Rattle.std.proofs.lemmas.Int.{ints}
 use Rattle.sources.proofs.extent.Extent.holds_row.Goals as goal
 

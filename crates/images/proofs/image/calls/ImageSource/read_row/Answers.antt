@@ -1,11 +1,10 @@
-use Rattle.std.proofs.Common.{◌≡◌, ℕ, ◌+◌, ◌*◌, length, drop, ℤ, pos, ◌+ℤ◌, vec_items, refl, ap, ◌∙◌, arith, rules, w32, to_z, of_z}
+use Rattle.std.proofs.Common.{◌≡◌, ℕ, length, ℤ, pos, ◌+ℤ◌, ap, ◌∙◌, arith, rules, w32}
 use Rattle.sources.specs.Edges.{nearest}
 use Rattle.sources.proofs.Rows.{placed, row_below}
 use Rattle.std.proofs.lemmas.Int.{to_z-of_z}
 use Rattle.sources.specs.Meaning.{Ranges}
 use Rattle.images.specs.declared.header.Header.{Header}
 use Rattle.images.specs.declared.image.Image.{Image}
-use Rattle.images.specs.Samples.{pixel, sample_at, wide}
 use Rattle.images.proofs.Places.{shown_same}
 use Rattle.images.specs.Parsed.{shown}
 use Rattle.images.proofs.image.calls.ImageSource.read_row.Goals as goal
