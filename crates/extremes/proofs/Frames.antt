@@ -25,11 +25,6 @@ module _ {E : Type 0} (m : Meaning E) (q : Ranges m) where
   pub margin_known : ((Readable m (pos 0) (pos 0) → ⊥) → ⊥) → pos 0 ≤ℤ m.margin
   margin_known n = by_lt_z m.margin (pos 0) (λ l. absurd (n (λ r. let h = origin_margin r in omega (arith, ints)))) (λ h. h)
 
-  pub origin_readable : pos 0 ≤ℤ m.margin → Readable m (pos 0) (pos 0)
-  origin_readable g =
-      let a = q.some_rows in let b = q.some_columns in
-      ((omega (arith, ints), omega (arith, ints)), (omega (arith, ints), omega (arith, ints)))
-
   pub frame_row : pos 0 ≤ℤ m.margin → (row : ℕ) → row < m.height → RowReadable m (pos row) (pos 0) m.width
   frame_row g row l k a = ((omega (arith, ints), omega (arith, ints)), (omega (arith, ints), omega (arith, ints)))
 

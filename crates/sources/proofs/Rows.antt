@@ -16,9 +16,9 @@ through b h w g row first n s t d = rw (← to_z-of_z w32 row s, ← to_z-of_z w
 
 module _ {E : Type 0} (m : Meaning E) (row first : ℤ) (n : ℕ) where
   -- what the test of a row says of a source with these sides and this margin
-  pub tells : SFits w32 row → SFits w32 first → (b : Bool) (h w : ℕ) (g : ℤ) → h ≡ m.height → w ≡ m.width → g ≡ m.margin
+  pub tells : {h w : ℕ} {g : ℤ} → SFits w32 row → SFits w32 first → (b : Bool) → h ≡ m.height → w ≡ m.width → g ≡ m.margin
       → Decides b (RowWithin h w g (to_z w32 (of_z w32 row)) (to_z w32 (of_z w32 first)) n) → Decides b (RowReadable m row first n)
-  tells s t b h w g e1 e2 e3 d = rw (← e1, ← e2, ← e3) (through b h w g row first n s t d)
+  tells {h} {w} {g} s t b e1 e2 e3 d = rw (← e1, ← e2, ← e3) (through b h w g row first n s t d)
 
   -- what the frame's row is said to be, at a row of a source or at numbers
   abbrev pub RowPlaced : Result ℕ ReadRefusal → ℕ → ℕ → ℤ → ℤ → ℤ → Type 0
