@@ -6,7 +6,7 @@ use crate::Order;
 use std::fmt;
 
 /// A record of a rig log.
-#[derive(Clone, Copy, PartialEq, Eq, Debug)]
+#[derive(Clone, Copy, PartialEq, Eq, PartialOrd, Ord, Debug)]
 pub struct Event {
     pub key: u64,
     pub stamp: u32,
@@ -24,14 +24,12 @@ impl Order for Event {
     ghost transitive = { Prim.search rules };
 
     fn at_most(self, other: Event) -> bool {
-        self.key < other.key || self.key == other.key && self.stamp <= other.stamp
+        self <= other
     }
 }
 
 impl fmt::Display for Event {
     fn fmt<W: fmt::Write>(&self, f: &mut fmt::Formatter<W>) -> fmt::Result {
-        let key = self.key;
-        let stamp = self.stamp;
-        write!(f, "key {key} stamp {stamp}")
+        write!(f, "key {} stamp {}", self.key, self.stamp)
     }
 }

@@ -6,7 +6,7 @@ use crate::Order;
 use std::fmt;
 
 /// A sample of an image.
-#[derive(Clone, Copy, PartialEq, Eq, Debug)]
+#[derive(Clone, Copy, PartialEq, Eq, PartialOrd, Ord, Debug)]
 pub struct Pixel(pub u16);
 
 impl Order for Pixel {
@@ -21,13 +21,12 @@ impl Order for Pixel {
     ghost transitive = { Prim.search rules };
 
     fn at_most(self, other: Pixel) -> bool {
-        self.0 <= other.0
+        self <= other
     }
 }
 
 impl fmt::Display for Pixel {
     fn fmt<W: fmt::Write>(&self, f: &mut fmt::Formatter<W>) -> fmt::Result {
-        let sample = self.0;
-        write!(f, "{sample}")
+        write!(f, "{}", self.0)
     }
 }

@@ -1,5 +1,6 @@
 -- Frames in reading order.
-use Rattle.std.proofs.Common.{◌≡◌, ℕ, ◌+◌, ◌-◌, ◌*◌, ◌/◌, ◌%◌, ◌<◌, Bool, true, false, List, get_or, ℤ, pos, ◌≤ℤ◌, sym, ap, ◌∙◌, subst, inl, inr, mul-le-mul_right, suc-mul, mul_comm, add-mul, zero-add, arith}
+use Rattle.std.proofs.Common.{◌≡◌, ℕ, ◌+◌, ◌-◌, ◌*◌, ◌/◌, ◌%◌, ◌<◌, Bool, true, false, List, get_or, Some, None, Ok, Err, Option, Result, ℤ, pos, ◌≤ℤ◌, sym, ap, ◌∙◌, subst, inl, inr, mul-le-mul_right, suc-mul, mul_comm, add-mul, zero-add, arith}
+use Rattle.std.specs.Result.{result_ok}
 use Rattle.std.proofs.lemmas.Int.{ints, by_lt_z}
 use Rattle.std.proofs.lemmas.Nat.{div-add-mod', mul-add-lt, div-mul-add, mod-mul-add, div_below, mod_below}
 use Rattle.std.proofs.lemmas.Bool.{cases_lt}
@@ -10,17 +11,19 @@ use Rattle.extremes.specs.Leads.{Leads}
 use Rattle.extremes.specs.Leads.{element_in_order}
 use Rattle.extremes.specs.First.{Before, First}
 
+-- what was declined is not taken by `ok`, and what was not is
+pub err_not_some : {T E : Type 0} {r : Result T E} {e : E} {o : Option T} {x : T} → r ≡ Err e → o ≡ result_ok r → o ≡ Some x → ⊥
+err_not_some {x = x} p q s = let n : None ≡ Some x = sym (q ∙ ap result_ok p) ∙ s in cc
+
+pub ok_not_none : {T E : Type 0} {r : Result T E} {x : T} {o : Option T} → r ≡ Ok x → o ≡ result_ok r → o ≡ None → ⊥
+ok_not_none {x = x} p q s = let n : Some x ≡ None = sym (q ∙ ap result_ok p) ∙ s in cc
+
 module _ {E : Type 0} (m : Meaning E) (q : Ranges m) where
   pub origin_margin : Readable m (pos 0) (pos 0) → pos 0 ≤ℤ m.margin
   origin_margin r = omega (arith, ints, r.0.0)
 
   pub margin_known : ((Readable m (pos 0) (pos 0) → ⊥) → ⊥) → pos 0 ≤ℤ m.margin
   margin_known n = by_lt_z m.margin (pos 0) (λ l. absurd (n (λ r. let h = origin_margin r in omega (arith, ints)))) (λ h. h)
-
-  pub origin_readable : pos 0 ≤ℤ m.margin → Readable m (pos 0) (pos 0)
-  origin_readable g =
-      let a = q.some_rows in let b = q.some_columns in
-      ((omega (arith, ints), omega (arith, ints)), (omega (arith, ints), omega (arith, ints)))
 
   pub frame_row : pos 0 ≤ℤ m.margin → (row : ℕ) → row < m.height → RowReadable m (pos row) (pos 0) m.width
   frame_row g row l k a = ((omega (arith, ints), omega (arith, ints)), (omega (arith, ints), omega (arith, ints)))

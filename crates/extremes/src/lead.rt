@@ -1,7 +1,7 @@
 // The first of the lowest and the first of the highest elements of a sequence so far.
-ghost use Rattle.std.specs.Prelude.{◌≡◌, ℕ, ◌+◌, ◌^◌, ◌<◌, ◌≤◌, length, if◌then◌else◌, slice_index_or};
+ghost use Rattle.std.specs.Prelude.{◌≡◌, ◌+◌, ◌^◌, ◌<◌, Bool, length, if◌then◌else◌};
 ghost use Rattle.extremes.specs.First.{turned};
-ghost use Rattle.extremes.specs.Leads.{Leads};
+ghost use Rattle.extremes.specs.Leads.{Scans};
 
 use elements::Order;
 
@@ -17,21 +17,14 @@ pub(crate) struct Leaders<E> {
     pub high: Lead<E>,
 }
 
-fn lower<E: Order>(low: Lead<E>, here: Lead<E>) -> Lead<E>
-    ensures { result ≡ (if E.Order.most low.element here.element then low else here) }
+// The leader where it keeps its place before what is here, and otherwise that.
+fn leading<E: Copy, F: Fn(E, E) -> bool>(leader: Lead<E>, here: Lead<E>, keeps: F) -> Lead<E>
+    requires { F.IsAlwaysCallable keeps }
+    ensures { (most : E → E → Bool) → ((a b : E) (r : Bool) → F.post keeps a b r → r ≡ most a b)
+        → result ≡ (if most leader.element here.element then leader else here) }
 {
-    if low.element.at_most(here.element) {
-        low
-    } else {
-        here
-    }
-}
-
-fn higher<E: Order>(high: Lead<E>, here: Lead<E>) -> Lead<E>
-    ensures { result ≡ (if E.Order.most here.element high.element then high else here) }
-{
-    if here.element.at_most(high.element) {
-        high
+    if keeps(leader.element, here.element) {
+        leader
     } else {
         here
     }
@@ -40,18 +33,17 @@ fn higher<E: Order>(high: Lead<E>, here: Lead<E>) -> Lead<E>
 // The leaders after one row more, whose first element has the index `start`.
 pub(crate) fn scan<E: Order>(row: &[E], start: u32, so_far: Leaders<E>) -> Leaders<E>
     requires { start + length row.now < 2 ^ 32 }
-    ensures low { (element : ℕ → E) → ((k : ℕ) (d : E) → k < length row.now → slice_index_or row.now k d ≡ element (start + k)) → Leads E.Order.most element start so_far.low → Leads E.Order.most element (start + length row.now) result.low }
-    ensures high { (element : ℕ → E) → ((k : ℕ) (d : E) → k < length row.now → slice_index_or row.now k d ≡ element (start + k)) → Leads (turned E.Order.most) element start so_far.high → Leads (turned E.Order.most) element (start + length row.now) result.high }
+    ensures low { Scans E.Order.most row.now start (length row.now) so_far.low result.low }
+    ensures high { Scans (turned E.Order.most) row.now start (length row.now) so_far.high result.high }
 {
-    let mut low = so_far.low;
-    let mut high = so_far.high;
-    for column in 0..row.len() {
+    let Leaders { mut low, mut high } = so_far;
+    for (column, element) in row.iter().enumerate() {
         let here = Lead {
-            element: row[column],
+            element: *element,
             index: start + column as u32,
         };
-        low = lower(low, here);
-        high = higher(high, here);
+        low = leading(low, here, |a, b| a.at_most(b));
+        high = leading(high, here, |a, b| b.at_most(a));
     }
     Leaders { low, high }
 }

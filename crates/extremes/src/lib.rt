@@ -50,18 +50,14 @@ pub fn find_extremes<S: Source>(
     if scratch.len() != width as usize {
         return None;
     }
-    let Ok(element) = source.read(0, 0) else {
-        return None;
-    };
+    let element = source.read(0, 0).ok()?;
     let start = Lead { element, index: 0 };
     let mut leaders = Leaders {
         low: start,
         high: start,
     };
     for row in 0..source.height() {
-        if source.read_row(row as i32, 0, scratch).is_err() {
-            return None;
-        }
+        source.read_row(row as i32, 0, scratch).ok()?;
         leaders = scan(scratch, row * width, leaders);
     }
     Some(Extremes {

@@ -1,21 +1,37 @@
 -- Numbers written most significant byte first.
-use Rattle.std.proofs.Common.{◌≡◌, ℕ, ◌+◌, ◌*◌, ◌^◌, ◌<◌, ◌≤◌, List, length, get_or, drop, ap, ◌∙◌, pow-suc, add-one, arith}
-use native.Mathlib.Nat.{pow-le-pow_right}
-use Rattle.std.proofs.lemmas.List.{get_or-drop, length-drop}
-use Rattle.std.proofs.lemmas.Int.Digits.{number_more}
+use Rattle.std.proofs.Common.{◌≡◌, ℕ, ◌+◌, ◌≤◌, List, length, take, drop, ap, ◌∙◌, arith, w32, w64}
+use Rattle.std.specs.Int.{from_be_bytes}
+use Rattle.std.specs.Int.Digits.{number_from_digits}
+use Rattle.std.proofs.lemmas.List.{take_all, length-take-le, length-drop}
 use Rattle.images.specs.Records.{big_endian}
+use Rattle.std.proofs.lemmas.Int.Digits.{number_more}
 
-pub endian_more : (bs : List ℕ) (at k : ℕ) → at + k < length bs → big_endian bs at (k + 1) ≡ big_endian bs at k * 256 + get_or bs (at + k) 0
-endian_more bs at k l =
-    number_more 256 (drop at bs) k (omega (arith, length-drop at bs)) ∙ ap (λ (b : ℕ). big_endian bs at k * 256 + b) (get_or-drop at bs k 0)
+four_bytes : (xs : List ℕ) → length xs ≡ 4 → from_be_bytes w32 xs ≡ number_from_digits 256 (take 4 xs)
+four_bytes xs l =
+    let a = number_more 256 xs 0 (omega arith) in
+    let b = number_more 256 xs 1 (omega arith) in
+    let c = number_more 256 xs 2 (omega arith) in
+    let d = number_more 256 xs 3 (omega arith) in
+    omega arith
 
-pub endian_small : (k sum b : ℕ) → sum < 256 ^ k → b < 256 → sum * 256 + b < 256 ^ (k + 1)
-endian_small k sum b h l = rw (add-one, pow-suc) (omega arith)
+eight_bytes : (xs : List ℕ) → length xs ≡ 8 → from_be_bytes w64 xs ≡ number_from_digits 256 (take 8 xs)
+eight_bytes xs l =
+    let a = number_more 256 xs 0 (omega arith) in
+    let b = number_more 256 xs 1 (omega arith) in
+    let c = number_more 256 xs 2 (omega arith) in
+    let d = number_more 256 xs 3 (omega arith) in
+    let e = number_more 256 xs 4 (omega arith) in
+    let f = number_more 256 xs 5 (omega arith) in
+    let g = number_more 256 xs 6 (omega arith) in
+    let h = number_more 256 xs 7 (omega arith) in
+    omega arith
 
--- eight bytes fit 64 bits
-pub endian_fits : (k sum b : ℕ) → k < 8 → sum < 256 ^ k → b < 256 → sum * 256 + b < 2 ^ 64
-endian_fits k sum b e h l =
-    let s = endian_small k sum b h l in
-    let a : k + 1 ≤ 8 = omega arith in
-    let w : 256 ^ (k + 1) ≤ 256 ^ 8 = pow-le-pow_right {n = 256} (omega arith) {i = k + 1} {j = 8} a in
-    omega (arith, s, w)
+pub four_at : (bs xs : List ℕ) (at : ℕ) → at + 4 ≤ length bs → xs ≡ take 4 (drop at bs) → from_be_bytes w32 xs ≡ big_endian bs at 4
+four_at bs xs at l e =
+    let n : length xs ≡ 4 = ap length e ∙ length-take-le 4 (drop at bs) (omega (arith, length-drop at bs)) in
+    four_bytes xs n ∙ ap (number_from_digits 256) (take_all 4 xs (omega arith) ∙ e)
+
+pub eight_at : (bs xs : List ℕ) (at : ℕ) → at + 8 ≤ length bs → xs ≡ take 8 (drop at bs) → from_be_bytes w64 xs ≡ big_endian bs at 8
+eight_at bs xs at l e =
+    let n : length xs ≡ 8 = ap length e ∙ length-take-le 8 (drop at bs) (omega (arith, length-drop at bs)) in
+    eight_bytes xs n ∙ ap (number_from_digits 256) (take_all 8 xs (omega arith) ∙ e)

@@ -1,14 +1,12 @@
 -- A field of the header, as it is read and as it is spelled.
 use Rattle.std.proofs.Common.{◌≡◌, ℕ, suc, ◌+◌, ◌-◌, ◌<◌, ◌≤◌, Bool, true, false, cond, ◌||◌, eqb, ltb, List, [], ◌∷◌, ◌++◌, length, take, drop, Some, None, sym, refl, ap, ◌∙◌, subst, inl, inr, one-add, arith}
 use Rattle.std.specs.List.{prefix_len, AllByRecursion}
-use Rattle.std.proofs.lemmas.List.{take-append-drop, drop-drop, drop_at, take_at, length-take-le, length-drop}
+use Rattle.std.proofs.lemmas.List.{take_rest, take-append-drop, drop-drop, drop_at, take_at, length-take-le, length-drop}
 use Rattle.std.proofs.lemmas.List.Sums.{prefix_len-le-length}
 use Rattle.std.proofs.lemmas.Bool.{cond-true, cond-false, cases_Bool}
 use Rattle.std.proofs.lemmas.Bool.Decides.{nat_tests}
-use Rattle.images.specs.declared.reading.Class.{Class}
-use Rattle.images.specs.declared.reading.Class.TheVariants.{White, Digit}
 use Rattle.images.specs.Header.{white, digit, decimal, Field}
-use Rattle.images.specs.Reading.{belongs, run_end, field_between, field_from, field_at}
+use Rattle.images.specs.Reading.{Class, White, Digit, belongs, run_end, field_between, field_from, field_at}
 
 -- t does not begin with a byte that passes p
 abbrev pub Stops : (ℕ → Bool) → List ℕ → Type 0
@@ -73,7 +71,7 @@ found false x y e = (refl, cc)
 passes : (at start end : ℕ) → (eqb start at || (eqb end start || ltb 5 (end - start))) ≡ false → (start ≡ at → ⊥) × (end ≡ start → ⊥) × (end - start ≤ 5)
 passes at start end e = (grind (arith, nat_tests), grind (arith, nat_tests), grind (arith, nat_tests))
 
-to_pass : (at start end : ℕ) → at < start → start < end → end ≤ start + 5 → (eqb start at || (eqb end start || ltb 5 (end - start))) ≡ false
+pub to_pass : (at start end : ℕ) → at < start → start < end → end ≤ start + 5 → (eqb start at || (eqb end start || ltb 5 (end - start))) ≡ false
 to_pass at start end a b c = grind (arith, nat_tests)
 
 -- what is read as a field is spelled as one
@@ -136,3 +134,11 @@ module _ (bs : List ℕ) (at : ℕ) (s : List ℕ) (n : ℕ) (t : List ℕ) (her
       ∙ ap (field_between bs at start) run_digits
       ∙ cond-false _ _ _ p
       ∙ ap (λ (i : ℕ). Some (i, end)) (ap (λ (i : ℕ). decimal (take i (drop start bs))) k ∙ ap (λ (x : List ℕ). decimal (take (length f.digits) x)) drop_gap ∙ ap decimal (take_at f.digits t (length f.digits) refl) ∙ f.value)
+
+-- a field by the counts of its white space and of its digits, in parts of the bytes
+pub field_counted : (bs : List ℕ) (at w n : ℕ) → w ≡ prefix_len white (take (length bs - at) (drop at bs)) → n ≡ prefix_len digit (take (length bs - (at + w)) (drop (at + w) bs))
+    → field_at bs at ≡ field_between bs at (at + w) (at + w + n)
+field_counted bs at w n e f =
+    let start : run_end White bs at ≡ at + w = ap (λ (xs : List ℕ). at + prefix_len white xs) (sym (take_rest bs at)) ∙ ap (λ (k : ℕ). at + k) (sym e) in
+    let end : run_end Digit bs (at + w) ≡ at + w + n = ap (λ (xs : List ℕ). at + w + prefix_len digit xs) (sym (take_rest bs (at + w))) ∙ ap (λ (k : ℕ). at + w + k) (sym f) in
+    ap (field_from bs at) start ∙ ap (field_between bs at (at + w)) end

@@ -12,7 +12,7 @@ use Rattle.images.specs.declared.refusal.LogRefusal.{LogRefusal}
 use Rattle.images.specs.declared.refusal.LogRefusal.TheVariants.{NotRecords}
 use Rattle.images.specs.Samples.{image_meaning}
 use Rattle.images.specs.Pgm.{Pgm, Declines}
-use Rattle.images.specs.Records.{Records, log_meaning}
+use Rattle.images.specs.Records.{Records, record_count, log_meaning}
 
 abbrev pub header : Image → Header
 header i = i.layout.header
@@ -36,11 +36,15 @@ ImageOutcome bs (Err d) =
     × ((e : ImageRefusal) → Declines e bs → e ≡ d.refusal)
     × ((h : Header) (r : List ℕ) → Pgm bs h r → ⊥)
 
+-- how many records a log has
+abbrev pub count : Log → ℕ
+count l = record_count (vec_items l.bytes)
+
 -- what a log shows
 abbrev pub events : Log → Meaning Event
-events l = log_meaning (vec_items l.bytes) l.count
+events l = log_meaning (vec_items l.bytes) (count l)
 
 -- bytes are a log exactly when they are records
 abbrev pub LogOutcome : List ℕ → Result Log (Declined LogRefusal) → Type 0
-LogOutcome bs (Ok l) = Records bs l.count
+LogOutcome bs (Ok l) = Records bs (count l)
 LogOutcome bs (Err d) = (d.refusal ≡ NotRecords) × ((n : ℕ) → Records bs n → ⊥)

@@ -6,11 +6,14 @@ use Rattle.images.specs.declared.header.Header.{Header}
 use Rattle.images.specs.declared.header.Layout.{Layout}
 use Rattle.images.specs.declared.refusal.ImageRefusal.{ImageRefusal}
 use Rattle.images.specs.declared.refusal.ImageRefusal.TheVariants.{NotPgm, MalformedHeader, OutOfRange, WrongLength, AboveMaximum}
-use Rattle.images.specs.declared.reading.Class.{Class}
-use Rattle.images.specs.declared.reading.Class.TheVariants.{White, Digit}
 use Rattle.images.specs.Header.{white, digit, decimal, most_digits}
 use Rattle.images.specs.Samples.{wide, sample_at}
 use Rattle.images.specs.Fits.{highest_maximum, raster_length}
+
+-- white space, or digits
+pub data Class : Type 0 where
+  White : Class
+  Digit : Class
 
 abbrev pub belongs : Class → ℕ → Bool
 belongs White b = white b

@@ -1,5 +1,5 @@
 -- The records of a log, and what a log shows.
-use Rattle.std.specs.Prelude.{◌≡◌, ℕ, ◌+◌, ◌*◌, ◌≤◌, List, length, take, drop}
+use Rattle.std.specs.Prelude.{◌≡◌, ℕ, ◌+◌, ◌*◌, ◌/◌, ◌≤◌, List, length, take, drop}
 use Rattle.std.specs.Int.Digits.{number_from_digits}
 use Rattle.elements.specs.declared.event.Event.{Event}
 use Rattle.sources.specs.Meaning.{Meaning, longest}
@@ -11,6 +11,10 @@ big_endian bs at n = number_from_digits 256 (take n (drop at bs))
 
 abbrev pub record_bytes : ℕ
 record_bytes = 12
+
+-- how many whole records there are
+abbrev pub record_count : List ℕ → ℕ
+record_count bs = length bs / record_bytes
 
 -- record k: eight bytes of key, four of stamp
 abbrev pub event_at : List ℕ → ℕ → Event

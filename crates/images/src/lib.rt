@@ -5,6 +5,7 @@ mod declined;
 mod header;
 mod image;
 mod log;
+mod raster;
 mod reading;
 mod refusal;
 mod rows;
@@ -15,6 +16,4 @@ pub use header::Header;
 pub use image::Image;
 pub use log::Log;
 pub use refusal::{ImageRefusal, LogRefusal};
-
-/// How far outside its frame an image or a log can be read.
-pub const EDGE_MARGIN: i32 = 32;
+pub use sources::EDGE_MARGIN;

@@ -1,5 +1,5 @@
 // A log that owns the bytes of its file.
-ghost use Rattle.images.specs.Records.{Records};
+ghost use Rattle.images.specs.Records.{Records, record_count};
 
 mod calls;
 
@@ -7,6 +7,5 @@ mod calls;
 #[derive(Drop)]
 pub struct Log {
     bytes: Vec<u8>,
-    count: u32,
-    ghost whole: { Records bytes.items count },
+    ghost whole: { Records bytes.items (record_count bytes.items) },
 }

@@ -1,11 +1,12 @@
 // The reading of an image: its header, its length, its samples.
-ghost use Rattle.std.specs.Prelude.{◌≡◌, ◌+◌, ◌*◌, ◌≤◌, length, IfSome, IfOk, ◌==◌};
-ghost use Rattle.images.specs.Header.{decimal as decimal_of, most_digits};
-ghost use Rattle.images.specs.Samples.{wide as is_wide, sample_bytes, sample_at};
+ghost use Rattle.std.specs.Prelude.{◌≡◌, ◌+◌, ◌*◌, ◌≤◌, ℕ, Bool, length, IfSome, IfOk};
+ghost use Rattle.std.specs.List.{prefix_len};
+ghost use Rattle.images.specs.Header.{white, digit, decimal as decimal_of, most_digits};
 ghost use Rattle.images.specs.Fits.{Fits};
-ghost use Rattle.images.specs.Reading.{belongs, run_end, field_at, header_of, in_range, highest as highest_of, checked as checked_of, surveyed};
+ghost use Rattle.images.specs.Reading.{field_at, header_of, in_range, checked as checked_of, surveyed};
 
 use crate::header::{Header, Layout};
+use crate::raster::Raster;
 use crate::refusal::ImageRefusal;
 use sources::LONGEST;
 
@@ -15,33 +16,20 @@ const MOST_DIGITS: usize = 5;
 // The highest maximum that a header may give.
 const HIGHEST_MAXIMUM: u32 = 65_535;
 
-#[derive(Clone, Copy)]
-pub(crate) enum Class {
-    White,
-    Digit,
-}
-
-fn is_in(class: Class, b: u8) -> bool
-    ensures { result ≡ belongs class b }
+fn is_white(b: u8) -> bool
+    ensures { result ≡ white b }
 {
-    match class {
-        Class::White => b == b' ' || b == b'\t' || b == b'\r' || b == b'\n',
-        Class::Digit => b >= b'0' && b <= b'9',
-    }
+    matches!(b, b' ' | b'\t' | b'\r' | b'\n')
 }
 
-// Where the run of bytes of a class that starts at `at` ends.
-fn run_end(bytes: &[u8], at: usize, class: Class) -> usize
-    requires { at ≤ length bytes.now }
-    ensures from { at ≤ result }
+// How many bytes pass a test before the first that does not.
+fn leading<F: Fn(u8) -> bool>(bytes: &[u8], passes: F) -> usize
+    requires { F.IsAlwaysCallable passes }
+    ensures count { (p : ℕ → Bool) → ((b : ℕ) (r : Bool) → F.post passes b r → r ≡ p b)
+        → result ≡ prefix_len p bytes.now }
     ensures within { result ≤ length bytes.now }
-    ensures value { result ≡ run_end class bytes.now at }
 {
-    let mut end = at;
-    while end < bytes.len() && is_in(class, bytes[end]) {
-        end += 1;
-    }
-    end
+    bytes.iter().take_while(|b| passes(**b)).count()
 }
 
 // The number that a few digits write.
@@ -62,8 +50,8 @@ fn field(bytes: &[u8], at: usize) -> Option<(u32, usize)>
     ensures within { IfSome result (λ p. p.1 ≤ length bytes.now) }
     ensures value { result ≡ field_at bytes.now at }
 {
-    let start = run_end(bytes, at, Class::White);
-    let end = run_end(bytes, start, Class::Digit);
+    let start = at + leading(&bytes[at..], is_white);
+    let end = start + leading(&bytes[start..], |b| b.is_ascii_digit());
     if start == at || end == start || end - start > MOST_DIGITS {
         return None;
     }
@@ -79,72 +67,23 @@ fn header(bytes: &[u8]) -> Option<Layout>
     let (width, at) = field(bytes, 2)?;
     let (height, at) = field(bytes, at)?;
     let (maximum, at) = field(bytes, at)?;
-    if at < bytes.len() && is_in(Class::White, bytes[at]) {
-        Some(Layout {
-            header: Header {
-                height,
-                width,
-                maximum,
-            },
-            start: at + 1,
-        })
-    } else {
-        None
-    }
+    let _ = bytes.get(at).filter(|b| is_white(**b))?;
+    Some(Layout {
+        header: Header {
+            height,
+            width,
+            maximum,
+        },
+        start: at + 1,
+    })
 }
 
 fn in_range(header: Header) -> bool
     ensures { result ≡ in_range header }
 {
-    1 <= header.height
-        && header.height <= LONGEST
-        && (1 <= header.width && header.width <= LONGEST)
-        && (1 <= header.maximum && header.maximum <= HIGHEST_MAXIMUM)
-}
-
-impl Header {
-    // Whether a sample takes two bytes.
-    pub(crate) fn wide(self) -> bool
-        ensures { result ≡ is_wide self }
-    {
-        self.maximum >= 256
-    }
-}
-
-fn sample_bytes(wide: bool) -> usize
-    ensures { result ≡ sample_bytes wide }
-{
-    if wide { 2 } else { 1 }
-}
-
-// Sample `k` of a raster.
-pub(crate) fn sample(raster: &[u8], wide: bool, k: usize) -> u16
-    requires { (k + 1) * sample_bytes wide ≤ length raster.now }
-    ensures { result ≡ sample_at wide raster.now k }
-{
-    if wide {
-        u16::from(raster[2 * k]) * 256 + u16::from(raster[2 * k + 1])
-    } else {
-        u16::from(raster[k])
-    }
-}
-
-// The highest of the first `count` samples, or 0.
-fn highest(raster: &[u8], wide: bool, count: usize) -> u16
-    requires { count * sample_bytes wide ≤ length raster.now }
-    ensures { result ≡ highest_of wide raster.now count }
-{
-    let mut top = 0u16;
-    for k in 0..count {
-        top = top.max(sample(raster, wide, k));
-    }
-    top
-}
-
-fn has_length(raster: &[u8], expected: usize) -> bool
-    ensures { result ≡ (length raster.now == expected) }
-{
-    raster.len() == expected
+    (1..=LONGEST).contains(&header.height)
+        && (1..=LONGEST).contains(&header.width)
+        && (1..=HIGHEST_MAXIMUM).contains(&header.maximum)
 }
 
 // What follows the header is checked: the ranges, the length, the samples.
@@ -157,13 +96,12 @@ fn checked(bytes: &[u8], layout: Layout) -> Result<Layout, ImageRefusal>
     if !in_range(header) {
         return Err(ImageRefusal::OutOfRange);
     }
-    let start = layout.start;
-    let raster = &bytes[start..];
-    let count = header.height as usize * header.width as usize;
-    if !has_length(raster, count * sample_bytes(header.wide())) {
+    let bytes = &bytes[layout.start..];
+    if bytes.len() != header.raster_length() {
         return Err(ImageRefusal::WrongLength);
     }
-    if u32::from(highest(raster, header.wide(), count)) > header.maximum {
+    let raster = Raster { header, bytes };
+    if u32::from(raster.highest()) > header.maximum {
         return Err(ImageRefusal::AboveMaximum);
     }
     Ok(layout)
@@ -174,11 +112,9 @@ pub(crate) fn survey(bytes: &[u8]) -> Result<Layout, ImageRefusal>
     ensures fits { IfOk result (λ l. Fits l bytes.now) }
     ensures value { result ≡ surveyed bytes.now }
 {
-    if bytes.len() < 2 || bytes[0] != b'P' || bytes[1] != b'5' {
+    let [b'P', b'5', ..] = bytes else {
         return Err(ImageRefusal::NotPgm);
-    }
-    match header(bytes) {
-        Some(layout) => checked(bytes, layout),
-        None => Err(ImageRefusal::MalformedHeader),
-    }
+    };
+    let layout = header(bytes).ok_or(ImageRefusal::MalformedHeader)?;
+    checked(bytes, layout)
 }

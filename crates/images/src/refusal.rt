@@ -8,22 +8,22 @@ use std::fmt;
 #[derive(Clone, Copy, PartialEq, Eq, Debug)]
 pub enum ImageRefusal {
     /// The bytes do not begin with `P5`.
-    NotPgm,
+    NotPgm = 21,
     /// The header is malformed, or ends early.
-    MalformedHeader,
+    MalformedHeader = 22,
     /// A side or the maximum is out of its range.
-    OutOfRange,
+    OutOfRange = 23,
     /// The raster has too few or too many bytes.
-    WrongLength,
+    WrongLength = 24,
     /// A sample is above the maximum.
-    AboveMaximum,
+    AboveMaximum = 25,
 }
 
 /// Why bytes are no log.
 #[derive(Clone, Copy, PartialEq, Eq, Debug)]
 pub enum LogRefusal {
     /// No record, too many, or a part of one.
-    NotRecords,
+    NotRecords = 26,
 }
 
 impl ImageRefusal {
@@ -31,13 +31,7 @@ impl ImageRefusal {
     pub fn number(self) -> u8
         ensures { result ≡ image_number self }
     {
-        match self {
-            ImageRefusal::NotPgm => 21,
-            ImageRefusal::MalformedHeader => 22,
-            ImageRefusal::OutOfRange => 23,
-            ImageRefusal::WrongLength => 24,
-            ImageRefusal::AboveMaximum => 25,
-        }
+        self as u8
     }
 }
 
@@ -46,9 +40,7 @@ impl LogRefusal {
     pub fn number(self) -> u8
         ensures { result ≡ log_number self }
     {
-        match self {
-            LogRefusal::NotRecords => 26,
-        }
+        self as u8
     }
 }
 
@@ -65,17 +57,15 @@ impl fmt::Display for ImageRefusal {
             ImageRefusal::AboveMaximum =>
                 "a sample is above the maximum; correct the maximum or export the section again",
         };
-        write!(f, "{text}")
+        f.write_str(text)
     }
 }
 
 impl fmt::Display for LogRefusal {
     fn fmt<W: fmt::Write>(&self, f: &mut fmt::Formatter<W>) -> fmt::Result {
-        match *self {
-            LogRefusal::NotRecords => write!(
-                f,
-                "not 1 to 16384 whole records of 12 bytes; copy the file again or split it"
-            ),
-        }
+        write!(
+            f,
+            "not 1 to 16384 whole records of 12 bytes; copy the file again or split it"
+        )
     }
 }

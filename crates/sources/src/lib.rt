@@ -16,6 +16,9 @@ pub use refusal::ReadRefusal;
 /// The longest side of a source, and its widest margin.
 pub const LONGEST: u32 = 16_384;
 
+/// How far outside its frame a source can be read that repeats its edges.
+pub const EDGE_MARGIN: i32 = 32;
+
 /// A frame of elements with a margin around it, read place by place or row by row.
 pub trait Source {
     /// The kind of element that the source delivers.
@@ -36,6 +39,19 @@ pub trait Source {
     fn margin(&self) -> i32
         ensures { result ≡ (meaning self.now).margin };
 
+    /// The sides and the margin together.
+    fn extent(&self) -> Extent
+        ensures height { result.height ≡ (meaning self.now).height }
+        ensures width { result.width ≡ (meaning self.now).width }
+        ensures margin { result.margin ≡ (meaning self.now).margin }
+    {
+        Extent {
+            height: self.height(),
+            width: self.width(),
+            margin: self.margin(),
+        }
+    }
+
     /// The element at a readable place; declined at any other.
     fn read(&self, row: i32, column: i32) -> Result<Self::Element, ReadRefusal>
         ensures shown { Readable (meaning self.now) row column → result ≡ Ok ((meaning self.now).element row column) }
@@ -48,17 +64,11 @@ pub trait Source {
         ensures filled { RowReadable (meaning self.now) row first (length out.old) → RowHolds (meaning self.now) row first (length out.old) out.new }
         ensures refused { (RowReadable (meaning self.now) row first (length out.old) → ⊥) → (result ≡ Err NotReadable) × (out.new ≡ out.old) }
     {
-        let extent = Extent {
-            height: self.height(),
-            width: self.width(),
-            margin: self.margin(),
-        };
-        if !extent.holds_row(row, first, out.len()) {
+        if !self.extent().holds_row(row, first, out.len()) {
             return Err(ReadRefusal::NotReadable);
         }
-        for i in 0..out.len() {
-            let element = self.read(row, first + i as i32)?;
-            out[i] = element;
+        for (i, slot) in out.iter_mut().enumerate() {
+            *slot = self.read(row, first + i as i32)?;
         }
         Ok(())
     }

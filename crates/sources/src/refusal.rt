@@ -8,7 +8,7 @@ use std::fmt;
 #[derive(Clone, Copy, PartialEq, Eq, Debug)]
 pub enum ReadRefusal {
     /// A place that is not readable.
-    NotReadable,
+    NotReadable = 20,
 }
 
 impl ReadRefusal {
@@ -16,19 +16,15 @@ impl ReadRefusal {
     pub fn number(self) -> u8
         ensures { result ≡ read_number self }
     {
-        match self {
-            ReadRefusal::NotReadable => 20,
-        }
+        self as u8
     }
 }
 
 impl fmt::Display for ReadRefusal {
     fn fmt<W: fmt::Write>(&self, f: &mut fmt::Formatter<W>) -> fmt::Result {
-        match *self {
-            ReadRefusal::NotReadable => write!(
-                f,
-                "the place is not readable; read from minus the margin up to the side plus the margin"
-            ),
-        }
+        write!(
+            f,
+            "the place is not readable; read from minus the margin up to the side plus the margin"
+        )
     }
 }

@@ -2,17 +2,15 @@
 #![tactic(auto)]
 
 use elements::Pixel;
-use images::{Image, Log};
+use images::{Declined, Header, Image, Log};
 use sources::Source;
 use std::alloc::{AllocError, Global};
-use std::fmt;
+use std::{fmt, iter};
 
 // The bytes of a header and of a raster that is one byte again and again.
 fn file(heap: Global, header: &[u8], raster: usize, byte: u8) -> Result<Vec<u8>, AllocError> {
     let mut bytes = Vec::from_slice(heap, header)?;
-    for _ in 0..raster {
-        bytes.push(byte)?;
-    }
+    bytes.extend(iter::repeat_n(byte, raster))?;
     Ok(bytes)
 }
 
@@ -25,33 +23,31 @@ fn image(
 ) -> anyhow::Result<()> {
     match Image::parse(file(rt.alloc(), header, raster, byte)?) {
         Ok(image) => {
-            let h = image.header();
-            let height = h.height;
-            let width = h.width;
-            let maximum = h.maximum;
+            let Header {
+                height,
+                width,
+                maximum,
+            } = image.header();
             println!(rt; "{what}: image {height} by {width}, maximum {maximum}")?;
         }
-        Err(declined) => {
-            let number = declined.refusal.number();
-            let left = declined.bytes.len();
-            println!(rt; "{what}: refused {number}, {left} bytes given back")?;
-        }
+        Err(Declined { bytes, refusal }) => declined(rt, what, refusal.number(), &bytes)?,
     }
     Ok(())
 }
 
 fn log(rt: &HostRuntime, what: &str, length: usize) -> anyhow::Result<()> {
-    match Log::parse(file(rt.alloc(), b"", length, 7)?) {
-        Ok(log) => {
-            let count = log.height();
-            println!(rt; "{what}: log of {count}")?;
-        }
-        Err(declined) => {
-            let number = declined.refusal.number();
-            let left = declined.bytes.len();
-            println!(rt; "{what}: refused {number}, {left} bytes given back")?;
-        }
+    match Log::parse(vec![in rt.alloc(); 7; length]?) {
+        Ok(log) => println!(rt; "{what}: log of {}", log.height())?,
+        Err(Declined { bytes, refusal }) => declined(rt, what, refusal.number(), &bytes)?,
     }
+    Ok(())
+}
+
+fn declined(rt: &HostRuntime, what: &str, number: u8, bytes: &[u8]) -> anyhow::Result<()> {
+    println!(rt;
+        "{what}: refused {number}, {} bytes given back",
+        bytes.len()
+    )?;
     Ok(())
 }
 
@@ -165,10 +161,7 @@ where
 {
     match source.read(row, column) {
         Ok(element) => println!(rt; "({row}, {column}): {element}")?,
-        Err(refusal) => {
-            let number = refusal.number();
-            println!(rt; "({row}, {column}): refused {number}")?;
-        }
+        Err(refusal) => println!(rt; "({row}, {column}): refused {}", refusal.number())?,
     }
     Ok(())
 }
@@ -178,23 +171,28 @@ fn places<S: Source>(rt: &HostRuntime, source: &S) -> anyhow::Result<()>
 where
     S::Element: fmt::Display,
 {
-    place(rt, source, 0, 0)?;
-    place(rt, source, 1, 0)?;
-    place(rt, source, -1, -1)?;
-    place(rt, source, -32, 0)?;
-    place(rt, source, -33, 0)?;
-    place(rt, source, 33, 0)?;
-    place(rt, source, 34, 0)?;
-    place(rt, source, 0, -32)?;
-    place(rt, source, 0, -33)?;
-    place(rt, source, 0, 32)?;
-    place(rt, source, 0, 33)?;
-    place(rt, source, 0, 34)?;
-    place(rt, source, i32::MIN, 0)?;
-    place(rt, source, i32::MAX, 0)?;
-    place(rt, source, 0, i32::MIN)?;
-    place(rt, source, 0, i32::MAX)?;
-    place(rt, source, i32::MAX, i32::MIN)
+    for (row, column) in [
+        (0, 0),
+        (1, 0),
+        (-1, -1),
+        (-32, 0),
+        (-33, 0),
+        (33, 0),
+        (34, 0),
+        (0, -32),
+        (0, -33),
+        (0, 32),
+        (0, 33),
+        (0, 34),
+        (i32::MIN, 0),
+        (i32::MAX, 0),
+        (0, i32::MIN),
+        (0, i32::MAX),
+        (i32::MAX, i32::MIN),
+    ] {
+        place(rt, source, row, column)?;
+    }
+    Ok(())
 }
 
 // A row read into a slice of three places that hold 9 before.
@@ -204,26 +202,28 @@ fn row(rt: &HostRuntime, image: &Image, row: i32, first: i32) -> anyhow::Result<
     let [a, b, c] = out;
     match outcome {
         Ok(()) => println!(rt; "row {row} from {first}: {a} {b} {c}")?,
-        Err(refusal) => {
-            let number = refusal.number();
-            println!(rt;
-                "row {row} from {first}: refused {number}, and the slice has {a} {b} {c}"
-            )?;
-        }
+        Err(refusal) => println!(rt;
+            "row {row} from {first}: refused {}, and the slice has {a} {b} {c}",
+            refusal.number()
+        )?,
     }
     Ok(())
 }
 
 fn rows(rt: &HostRuntime, image: &Image) -> anyhow::Result<()> {
-    row(rt, image, 0, 0)?;
-    row(rt, image, 1, -1)?;
-    row(rt, image, -32, -32)?;
-    row(rt, image, 0, -33)?;
-    row(rt, image, 33, 31)?;
-    row(rt, image, 33, 32)?;
-    row(rt, image, 34, 0)?;
-    row(rt, image, 0, i32::MIN)?;
-    row(rt, image, 0, i32::MAX)?;
+    for (at, first) in [
+        (0, 0),
+        (1, -1),
+        (-32, -32),
+        (0, -33),
+        (33, 31),
+        (33, 32),
+        (34, 0),
+        (0, i32::MIN),
+        (0, i32::MAX),
+    ] {
+        row(rt, image, at, first)?;
+    }
     let empty = image.read_row(i32::MIN, i32::MAX, &mut []).is_ok();
     println!(rt; "a row of no place is read: {empty}")?;
     Ok(())

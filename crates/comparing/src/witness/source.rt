@@ -7,10 +7,7 @@ ghost use Rattle.std.proofs.Common.{rules};
 use super::{HEIGHT, WIDTH, Witness};
 use elements::Order;
 use forms::Cell;
-use sources::{Extent, ReadRefusal, Source, nearest};
-
-// How far outside its frame a witness can be read.
-const MARGIN: i32 = 32;
+use sources::{EDGE_MARGIN, ReadRefusal, Source};
 
 impl<K: Order> Witness<K> {
     // The element at a place of the frame.
@@ -42,18 +39,11 @@ impl<K: Order> Source for Witness<K> {
     }
 
     fn margin(&self) -> i32 {
-        MARGIN
+        EDGE_MARGIN
     }
 
     fn read(&self, row: i32, column: i32) -> Result<K, ReadRefusal> {
-        let extent = Extent {
-            height: HEIGHT,
-            width: WIDTH,
-            margin: MARGIN,
-        };
-        if !extent.holds(row, column) {
-            return Err(ReadRefusal::NotReadable);
-        }
-        Ok(self.at(nearest(HEIGHT, row), nearest(WIDTH, column)))
+        let (row, column) = self.extent().place(row, column)?;
+        Ok(self.at(row, column))
     }
 }

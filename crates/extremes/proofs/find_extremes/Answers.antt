@@ -1,31 +1,29 @@
-use Rattle.std.proofs.Common.{◌≡◌, ℕ, ◌+◌, ◌*◌, ◌<◌, length, get_or, pos, ◌≤ℤ◌, is_err, sym, ap, ◌∙◌, arith, w32, to_z}
+use Rattle.std.proofs.Common.{◌≡◌, ℕ, ◌+◌, ◌*◌, ◌<◌, length, get_or, pos, ◌≤ℤ◌, arith, w32, to_z}
 use Rattle.std.proofs.lemmas.Int.{to_z_pos}
-use Rattle.std.proofs.lemmas.Bool.{both_ways}
 use Rattle.sources.specs.Meaning.{Ranges}
 use Rattle.extremes.specs.First.{turned}
 use Rattle.extremes.specs.Leads.{element_in_order}
-use Rattle.extremes.proofs.Frames.{margin_known, row_readable, row_elements, row_holds, leads_next, first_place, last_row}
+use Rattle.extremes.proofs.Frames.{err_not_some, ok_not_none, margin_known, row_readable, row_elements, row_holds, leads_next, first_place, last_row}
 use Rattle.extremes.proofs.find_extremes.Goals as goal
 
-pub returns-then-is_err : goal.returns-then-is_err
-returns-then-is_err g c =
+pub returns-in_err-ok : goal.returns-in_err-ok
+returns-in_err-ok g c =
     let m = g.S.Source.meaning c.args.source.now in
     let q : Ranges m = g.met.S.Source.ranges c.args.source.now in
-    let deep : pos 0 ≤ℤ m.margin = margin_known m q (λ n. let r = c.in-Ok.ensures.refused n in let z : ◌≡◌ {A = ℕ} 0 1 = cc in omega arith) in
+    let deep : pos 0 ≤ℤ m.margin = margin_known m q (λ n. err_not_some (c.read.ensures.refused n) c.ok.ensures.value c.in_ok-element.was) in
     let row = c.loop-row.row in
     let w = c.width-width.result in
     let here : row < m.height = omega (arith, c.height-row-end.ensures) in
     let signed : to_z w32 row ≡ pos row = to_z_pos w32 row (omega (arith, here, q.few_rows)) in
     let long : length c.loop-row.scratch ≡ m.width = omega (arith, c.width-width.ensures, c.loop-row.auto.scratch) in
     let readable = row_readable m q (to_z w32 row) row (length c.loop-row.scratch) w signed long c.width-width.ensures deep here in
-    let r = c.read_row.ensures.shown readable in
-    absurd (both_ways (is_err c.read_row.result) (ap is_err r) (sym c.is_err.ensures.value ∙ c.if-is_err.true))
+    absurd (ok_not_none (c.read_row.ensures.shown readable) c.ok-in-loop-row.ensures.value c.in_err-ok.was)
 
 pub loop-row-preserved : goal.loop-row-preserved
 loop-row-preserved g c =
     let m = g.S.Source.meaning c.args.source.now in
     let q : Ranges m = g.met.S.Source.ranges c.args.source.now in
-    let deep : pos 0 ≤ℤ m.margin = margin_known m q (λ n. let r = c.in-Ok.ensures.refused n in let z : ◌≡◌ {A = ℕ} 0 1 = cc in omega arith) in
+    let deep : pos 0 ≤ℤ m.margin = margin_known m q (λ n. err_not_some (c.read.ensures.refused n) c.ok.ensures.value c.in_ok-element.was) in
     let row = c.loop-row.row in
     let w = c.width-width.result in
     let here : row < m.height = omega (arith, c.height-row-end.ensures) in
@@ -47,7 +45,7 @@ pub returns : goal.returns
 returns g c =
     let m = g.S.Source.meaning c.args.source.now in
     let q : Ranges m = g.met.S.Source.ranges c.args.source.now in
-    let deep : pos 0 ≤ℤ m.margin = margin_known m q (λ n. let r = c.in-Ok.ensures.refused n in let z : ◌≡◌ {A = ℕ} 0 1 = cc in omega arith) in
+    let deep : pos 0 ≤ℤ m.margin = margin_known m q (λ n. err_not_some (c.read.ensures.refused n) c.ok.ensures.value c.in_ok-element.was) in
     let row = c.loop-row.row in
     let w = c.width-width.result in
     let wide = c.width-width.ensures in

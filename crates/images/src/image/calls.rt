@@ -1,5 +1,5 @@
 // What can be asked of an image.
-ghost use Rattle.std.specs.Prelude.{◌≡◌, ◌+◌, ◌*◌, ◌<◌, Ok, Err};
+ghost use Rattle.std.specs.Prelude.{◌≡◌, ◌+◌, ◌*◌, ◌<◌, MatchResult};
 ghost use Rattle.images.specs.Samples.{pixel, sample_at, wide};
 ghost use Rattle.images.specs.Parsed.{header as header_of, raster, shown, ImageOutcome};
 ghost use Rattle.std.proofs.Common.{rules};
@@ -7,17 +7,17 @@ ghost use Rattle.std.proofs.Common.{rules};
 use crate::declined::Declined;
 use crate::header::Header;
 use crate::image::Image;
+use crate::raster::Raster;
+use crate::reading;
 use crate::refusal::ImageRefusal;
-use crate::rows::row_into;
-use crate::{EDGE_MARGIN, reading};
 use elements::Pixel;
-use sources::{Extent, ReadRefusal, Source, nearest};
+use sources::{EDGE_MARGIN, ReadRefusal, Source};
 
 impl Image {
     /// Takes the bytes of a PGM file for an image; declined, with the bytes given back, by the first
     /// rule that they break.
     pub fn parse(bytes: Vec<u8>) -> Result<Image, Declined<ImageRefusal>>
-        ensures kept { elim result [ Ok i ↦ i.bytes ≡ bytes | Err d ↦ d.bytes ≡ bytes ] }
+        ensures kept { MatchResult result (λ i. i.bytes ≡ bytes) (λ d. d.bytes ≡ bytes) }
         ensures outcome { ImageOutcome bytes.items result }
     {
         match reading::survey(bytes.as_slice()) {
@@ -33,16 +33,26 @@ impl Image {
         self.layout.header
     }
 
-    // The sample at a place of the frame.
-    fn at(&self, row: u32, column: u32) -> Pixel
-        requires { (row < (header_of self.now).height) × (column < (header_of self.now).width) }
-        ensures { result ≡ pixel (sample_at (wide (header_of self.now)) (raster self.now) (row * (header_of self.now).width + column)) }
+    fn raster(&self) -> Raster<'_>
+        ensures header { result.header ≡ header_of self.now }
+        ensures bytes { result.bytes.now ≡ raster self.now }
     {
         let layout = self.layout;
-        let start = layout.start;
         let bytes = self.bytes.as_slice();
-        let k = row as usize * layout.header.width as usize + column as usize;
-        Pixel(reading::sample(&bytes[start..], layout.header.wide(), k))
+        Raster {
+            header: layout.header,
+            bytes: &bytes[layout.start..],
+        }
+    }
+
+    // The sample at a place of the frame.
+    fn at(&self, row: u32, column: u32) -> Pixel
+        requires row { row < (header_of self.now).height }
+        requires column { column < (header_of self.now).width }
+        ensures { result ≡ pixel (sample_at (wide (header_of self.now)) (raster self.now) (row * (header_of self.now).width + column)) }
+    {
+        let width = self.layout.header.width as usize;
+        Pixel(self.raster().sample(row as usize * width + column as usize))
     }
 }
 
@@ -66,37 +76,13 @@ impl Source for Image {
     }
 
     fn read(&self, row: i32, column: i32) -> Result<Pixel, ReadRefusal> {
-        let layout = self.layout;
-        let height = layout.header.height;
-        let width = layout.header.width;
-        let extent = Extent {
-            height,
-            width,
-            margin: EDGE_MARGIN,
-        };
-        if !extent.holds(row, column) {
-            return Err(ReadRefusal::NotReadable);
-        }
-        Ok(self.at(nearest(height, row), nearest(width, column)))
+        let (row, column) = self.extent().place(row, column)?;
+        Ok(self.at(row, column))
     }
 
     fn read_row(&self, row: i32, first: i32, out: &mut [Pixel]) -> Result<(), ReadRefusal> {
-        let layout = self.layout;
-        let height = layout.header.height;
-        let width = layout.header.width;
-        let extent = Extent {
-            height,
-            width,
-            margin: EDGE_MARGIN,
-        };
-        if !extent.holds_row(row, first, out.len()) {
-            return Err(ReadRefusal::NotReadable);
-        }
-        let start = layout.start;
-        let bytes = self.bytes.as_slice();
-        let at = nearest(height, row) as usize * width as usize;
-        let wide = layout.header.wide();
-        row_into(&bytes[start..], wide, at, width, first, out);
+        let row = self.extent().place_row(row, first, out.len())?;
+        self.raster().row_into(row, first, out);
         Ok(())
     }
 }

@@ -1,16 +1,14 @@
 // What can be asked of a log.
-ghost use Rattle.std.specs.Prelude.{◌≡◌, ◌+◌, ◌*◌, ◌^◌, ◌<◌, ◌≤◌, length, Ok, Err};
-ghost use Rattle.images.specs.Records.{big_endian, event_at, record_bytes};
-ghost use Rattle.images.specs.Parsed.{events, LogOutcome};
+ghost use Rattle.std.specs.Prelude.{◌≡◌, ◌<◌, MatchResult};
+ghost use Rattle.images.specs.Records.{event_at};
+ghost use Rattle.images.specs.Parsed.{count, events, LogOutcome};
 ghost use Rattle.std.proofs.Common.{rules};
 
-use crate::EDGE_MARGIN;
 use crate::declined::Declined;
 use crate::log::Log;
 use crate::refusal::LogRefusal;
-use crate::rows::fill;
 use elements::Event;
-use sources::{Extent, LONGEST, ReadRefusal, Source, nearest};
+use sources::{EDGE_MARGIN, LONGEST, ReadRefusal, Source};
 
 // The bytes of a record: eight of key, four of stamp.
 const RECORD_BYTES: usize = 12;
@@ -18,50 +16,35 @@ const RECORD_BYTES: usize = 12;
 // A log has one column.
 const WIDTH: u32 = 1;
 
-// The number that `count` bytes from `at` on write, most significant first.
-fn big_endian(bytes: &[u8], at: usize, count: usize) -> u64
-    requires { (at + count ≤ length bytes.now) × (count ≤ 8) }
-    ensures value { result ≡ big_endian bytes.now at count }
-    ensures bound { result < 256 ^ count }
-{
-    let mut sum = 0u64;
-    for k in 0..count {
-        sum = sum * 256 + u64::from(bytes[at + k]);
-    }
-    sum
-}
-
 impl Log {
     /// Takes the bytes of a log file for a log; declined, with the bytes given back, where they are
     /// not 1 to 16,384 whole records.
     pub fn parse(bytes: Vec<u8>) -> Result<Log, Declined<LogRefusal>>
-        ensures kept { elim result [ Ok l ↦ l.bytes ≡ bytes | Err d ↦ d.bytes ≡ bytes ] }
+        ensures kept { MatchResult result (λ l. l.bytes ≡ bytes) (λ d. d.bytes ≡ bytes) }
         ensures outcome { LogOutcome bytes.items result }
     {
-        let length = bytes.len();
-        let count = length / RECORD_BYTES;
-        if count < 1 || count > LONGEST as usize || length % RECORD_BYTES != 0 {
+        let count = bytes.len() / RECORD_BYTES;
+        if count < 1 || count > LONGEST as usize || bytes.len() % RECORD_BYTES != 0 {
             return Err(Declined {
                 bytes,
                 refusal: LogRefusal::NotRecords,
             });
         }
-        Ok(Log {
-            bytes,
-            count: count as u32,
-        })
+        Ok(Log { bytes })
     }
 
     // The event in a record.
     fn at(&self, row: u32) -> Event
-        requires { row < self.now.count }
+        requires { row < count self.now }
         ensures { result ≡ event_at self.now.bytes.items row }
     {
-        let bytes = self.bytes.as_slice();
-        let start = RECORD_BYTES * row as usize;
-        let key = big_endian(bytes, start, 8);
-        let stamp = big_endian(bytes, start + 8, 4) as u32;
-        Event { key, stamp }
+        let record = &self.bytes.as_slice()[RECORD_BYTES * row as usize..];
+        let (key, rest) = record.split_first_chunk().unwrap();
+        let (stamp, _) = rest.split_first_chunk().unwrap();
+        Event {
+            key: u64::from_be_bytes(*key),
+            stamp: u32::from_be_bytes(*stamp),
+        }
     }
 }
 
@@ -73,7 +56,7 @@ impl Source for Log {
     ghost ranges = { Prim.search rules };
 
     fn height(&self) -> u32 {
-        self.count
+        (self.bytes.len() / RECORD_BYTES) as u32
     }
 
     fn width(&self) -> u32 {
@@ -85,28 +68,13 @@ impl Source for Log {
     }
 
     fn read(&self, row: i32, column: i32) -> Result<Event, ReadRefusal> {
-        let extent = Extent {
-            height: self.count,
-            width: 1,
-            margin: EDGE_MARGIN,
-        };
-        if !extent.holds(row, column) {
-            return Err(ReadRefusal::NotReadable);
-        }
-        Ok(self.at(nearest(self.count, row)))
+        let (row, _) = self.extent().place(row, column)?;
+        Ok(self.at(row))
     }
 
     fn read_row(&self, row: i32, first: i32, out: &mut [Event]) -> Result<(), ReadRefusal> {
-        let extent = Extent {
-            height: self.count,
-            width: 1,
-            margin: EDGE_MARGIN,
-        };
-        let count = out.len();
-        if !extent.holds_row(row, first, count) {
-            return Err(ReadRefusal::NotReadable);
-        }
-        fill(out, 0, count, self.at(nearest(self.count, row)));
+        let row = self.extent().place_row(row, first, out.len())?;
+        out.fill(self.at(row));
         Ok(())
     }
 }

@@ -12,8 +12,8 @@ returns-then-not-within c = (
       cc,
 )
 
-pub returns-then-end-side : goal.returns-then-end-side
-returns-then-end-side c = (
+pub returns-then-end-from : goal.returns-then-end-from
+returns-then-end-from c = (
   λ e. let z : ◌≡◌ {A = ℕ} 0 1 = cc in absurd (omega arith),
   λ h. let w = at_end c.args.side c.args.margin c.args.first c.args.count c.requires h in absurd (omega (arith, ints)),
 )

@@ -1,4 +1,4 @@
-use Rattle.std.proofs.Common.{◌≡◌, ℕ, arith, w32, SFits, rules}
+use Rattle.std.proofs.Common.{arith, w32, SFits, rules}
 use Rattle.std.proofs.lemmas.Int.{ints}
 use Rattle.sources.proofs.extent.Extent.holds_row.Goals as goal
 
@@ -10,13 +10,4 @@ returns-then-within c =
           let u = c.spans.ensures.0 e k l in
           ((omega (arith, ints, v.0), omega (arith, ints, v.1)), (omega (arith, ints, u.0), omega (arith, ints, u.1))),
       λ h. c.spans.ensures.1 (λ k l. let u = (h k l).1 in (omega (arith, ints, u.0), omega (arith, ints, u.1))),
-    )
-
-pub returns-else-within : goal.returns-else-within
-returns-else-within c =
-    let f : SFits w32 c.args.self.margin = search rules in (
-      λ e. let z : ◌≡◌ {A = ℕ} 0 1 = cc in absurd (omega arith),
-      λ h.
-          let w = (h 0 (omega arith)).0 in
-          c.within.ensures.1 (omega (arith, ints, w.0), omega (arith, ints, w.1)),
     )

@@ -1,29 +1,41 @@
-use Rattle.std.proofs.Common.{length, pos, vec_items, refl, ap, ◌∙◌, arith, w32}
-use Rattle.std.proofs.lemmas.Int.{to_z-of_z}
-use Rattle.std.proofs.lemmas.Bool.{both_ways}
+use Rattle.std.proofs.Common.{◌≡◌, ℕ, List, length, get_or, vec_items, ap, ◌∙◌, arith}
+use Rattle.std.proofs.lemmas.List.{get_or-replicate}
 use Rattle.sources.specs.Edges.{nearest}
-use Rattle.sources.proofs.Rows.{through}
+use Rattle.sources.proofs.Rows.{placed}
+use Rattle.elements.specs.declared.event.Event.{Event}
+use Rattle.images.specs.Parsed.{events}
 use Rattle.images.specs.Records.{event_at}
 use Rattle.images.proofs.log.calls.LogSource.read_row.Goals as goal
 
-pub returns-then-not-holds_row : goal.returns-then-not-holds_row
-returns-then-not-holds_row c =
-    let d = through c.holds_row.result c.args.self.now.count 1 (pos 32) c.args.row c.args.first (length c.args.out.now) c.ranges.row c.ranges.first c.holds_row.ensures in
-    record {
-      shown = λ r. absurd (both_ways c.holds_row.result c.if-not-holds_row.true (d.1 r));
-      filled = λ r. absurd (both_ways c.holds_row.result c.if-not-holds_row.true (d.1 r));
-      refused = λ _. (refl, refl);
-    }
+pub returns-in_err-row-clause-shown : goal.returns-in_err-row-clause-shown
+returns-in_err-row-clause-shown c =
+    let m = events c.args.self.now in
+    let e = c.extent.result in
+    let p = placed m c.args.row c.args.first (length c.args.out.now) c.ranges.row c.ranges.first c.place_row.result e.height e.width e.margin c.extent.ensures.height c.extent.ensures.width c.extent.ensures.margin (c.place_row.ensures.shown, c.place_row.ensures.refused) in
+    λ r. let a = p.0 r in let w = c.in_err-row.was in cc
 
-pub returns : goal.returns
-returns c =
-    let l = c.args.self.now in
-    let d = through c.holds_row.result l.count 1 (pos 32) c.args.row c.args.first (length c.args.out.now) c.ranges.row c.ranges.first c.holds_row.ensures in
-    record {
-      shown = λ _. refl;
-      filled = λ _ k a x.
-          c.fill.ensures.inside k x (omega arith) a
-          ∙ c.at.ensures
-          ∙ ap (event_at (vec_items l.bytes)) (c.nearest.ensures ∙ ap (nearest l.count) (to_z-of_z w32 c.args.row c.ranges.row));
-      refused = λ n. absurd (n (d.0 c.if-not-holds_row.false));
-    }
+pub returns-in_err-row-clause-filled : goal.returns-in_err-row-clause-filled
+returns-in_err-row-clause-filled c =
+    let m = events c.args.self.now in
+    let e = c.extent.result in
+    let p = placed m c.args.row c.args.first (length c.args.out.now) c.ranges.row c.ranges.first c.place_row.result e.height e.width e.margin c.extent.ensures.height c.extent.ensures.width c.extent.ensures.margin (c.place_row.ensures.shown, c.place_row.ensures.refused) in
+    λ r k l d. let a = p.0 r in let w = c.in_err-row.was in cc
+
+pub returns-clause-refused : goal.returns-clause-refused
+returns-clause-refused c =
+    let m = events c.args.self.now in
+    let e = c.extent.result in
+    let p = placed m c.args.row c.args.first (length c.args.out.now) c.ranges.row c.ranges.first c.place_row.result e.height e.width e.margin c.extent.ensures.height c.extent.ensures.width c.extent.ensures.margin (c.place_row.ensures.shown, c.place_row.ensures.refused) in
+    λ n. let a = p.1 n in let w = c.in_ok-row.was in let z : ◌≡◌ {A = ℕ} 0 1 = cc in absurd (omega arith)
+
+pub returns-clause-filled : goal.returns-clause-filled
+returns-clause-filled c =
+    let m = events c.args.self.now in
+    let e = c.extent.result in
+    let p = placed m c.args.row c.args.first (length c.args.out.now) c.ranges.row c.ranges.first c.place_row.result e.height e.width e.margin c.extent.ensures.height c.extent.ensures.width c.extent.ensures.margin (c.place_row.ensures.shown, c.place_row.ensures.refused) in
+    λ r k l d.
+    let a = p.0 r in
+    let w = c.in_ok-row.was in
+    let row : c.in_ok-row.row ≡ nearest m.height c.args.row = cc in
+    let filled = c.fill.ensures.after (λ y e. e) in
+    ap (λ (xs : List Event). get_or xs k d) filled ∙ get_or-replicate (length c.args.out.now) k c.at.result d l ∙ c.at.ensures ∙ ap (event_at (vec_items c.args.self.now.bytes)) row
