@@ -168,9 +168,6 @@ enter_terms t f p q w u m = go (in_enter t f u m)
 pub some : (f : List ℕ) (u : ℕ) → In u f → f ≡ [] → ⊥
 some f u m e = subst (λ (y : List ℕ). In u y) e m
 
-pub enter_some : (t : ℕ) (f : List ℕ) → enter t f ≡ [] → ⊥
-enter_some t f = let h : TrueOn (enter t f) (λ c. Unit {0}) = enter_from (λ c. Unit {0}) t f (inr (λ c l k. tt)) in some (enter t f) h.0 h.1
-
 pub enter_put : (t : ℕ) (f : List ℕ) → covers f t ≡ false → enter t f ≡ put t (without t f)
 enter_put t f e = cond-false (covers f t) f (put t (without t f)) e
 
@@ -182,13 +179,6 @@ length_put t (v ∷ f) = go (length_put t f) (length_put v f) (ltb t v)
         → length (cond b (t ∷ put v f) (v ∷ put t f)) ≡ suc (suc (length f))
     go p q true = ap suc q
     go p q false = ap suc p
-
-pub single_form : (t : ℕ) → Sound (t ∷ [])
-single_form t = ((λ u m. absurd m), tt)
-
-pub single_terms : (t : ℕ) → 0 < t → t < 2 ^ 63 → Terms (t ∷ [])
-single_terms t p q u (inl e) = (omega arith, omega arith)
-single_terms t p q u (inr m) = absurd m
 
 -- entering by the steps of the code
 pub entered : (t : ℕ) (f g h : List ℕ) → false ≡ covers f t → g ≡ without t f → h ≡ put t g → enter t f ≡ h
@@ -211,10 +201,13 @@ apart_of f h = ∥∥₁_elim h (Π_prop (λ t. Π_prop (λ u. Π_prop (λ m. Π
 pub sound_of : (f : List ℕ) → ∥ Ascending f ∥₁ → ∥ Apart f ∥₁ → Sound f
 sound_of f a p = sound f (ascending_of f a) (apart_of f p)
 
+pub in_at_or : (f : List ℕ) (i d : ℕ) → i < length f → In (get_or f i d) f
+in_at_or [] i d l = absurd (omega arith)
+in_at_or (t ∷ f) zero d l = inl refl
+in_at_or (t ∷ f) (suc i) d l = inr (in_at_or f i d (omega arith))
+
 pub in_at : (f : List ℕ) (i : ℕ) → i < length f → In (get_or f i 0) f
-in_at [] i l = absurd (omega arith)
-in_at (t ∷ f) zero l = inl refl
-in_at (t ∷ f) (suc i) l = inr (in_at f i (omega arith))
+in_at f i l = in_at_or f i 0 l
 
 -- at most most_terms terms
 pub bounded_made : (f : List ℕ) → length f ≤ most_terms → bounded f ≡ made f
@@ -258,12 +251,6 @@ enter_minimal t f w = record {
     whole v m k =
         let (x, n, r) = enter_inside t f v m in
         subst (λ (y : ℕ). In y (enter t f)) (k x (in_enter t f x n) r) n
-
--- there is one list of them
-pub minimal_same : (ts f g : List ℕ) → Minimal ts f → Minimal ts g → f ≡ g
-minimal_same ts f g a b = same f g a.ascending b.ascending
-    (λ t m. b.whole t (a.among t m) (λ u n s. a.least t u m n s))
-    (λ t m. a.whole t (b.among t m) (λ u n s. b.least t u m n s))
 
 pub true_covers : (f : List ℕ) (s : ℕ) → True f s → covers f s ≡ true
 true_covers f s h = go (covers f s) refl

@@ -62,28 +62,6 @@ module _ (f g : List ℕ) where
       let z = append_none (outside f g) (outside g f) (none_left (telling f g) e) in
       agree f g w v (outside_none f g z.0) (outside_none g f z.1)
 
--- the first of two lists, one after the other
-pub first_left : (xs ys : List ℕ) (t : ℕ) → t ∷ [] ≡ take 1 xs → t ∷ [] ≡ take 1 (xs ++ ys)
-first_left [] ys t e = absurd (let y : ◌≡◌ {A = ℕ} 0 1 = cc in omega arith)
-first_left (x ∷ xs) ys t e = e
-
-pub first_right : (xs ys zs : List ℕ) → [] ≡ take 1 xs → zs ≡ take 1 ys → zs ≡ take 1 (xs ++ ys)
-first_right [] ys zs e q = q
-first_right (x ∷ xs) ys zs e q = absurd (let y : ◌≡◌ {A = ℕ} 0 1 = cc in omega arith)
-
--- the turns of the loop that looks for the first of them
-abbrev pub Straying : List ℕ → List ℕ → ℕ → Type 0
-Straying f g i = take 1 (outside (drop i f) g) ≡ take 1 (outside f g)
-
-module _ (f g : List ℕ) (i : ℕ) (p : Straying f g i) where
-  pub stray_here : i < length f → false ≡ covers g (get_or f i 0) → get_or f i 0 ∷ [] ≡ take 1 (outside f g)
-  stray_here l e = ap (take 1) (sym (at_drop_more (λ (y : List ℕ). outside y g) f i 0 l ∙ cond-false (covers g (get_or f i 0)) _ _ (sym e))) ∙ p
-
-  pub stray_on : i < length f → true ≡ covers g (get_or f i 0) → Straying f g (i + 1)
-  stray_on l e = ap (take 1) (sym (at_drop_more (λ (y : List ℕ). outside y g) f i 0 l ∙ cond-true (covers g (get_or f i 0)) _ _ (sym e))) ∙ p
-
-  pub stray_end : length f ≤ i → [] ≡ take 1 (outside f g)
-  stray_end l = ap (take 1) (sym (at_drop_all (λ (y : List ℕ). outside y g) f i l)) ∙ p
 
 -- ---- forms that are true on the same sets
 pub same_truth : (f g : List ℕ) → f ≡ g → SameTruth f g

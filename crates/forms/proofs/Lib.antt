@@ -3,7 +3,7 @@ pub mod Forms
 pub mod Entered
 pub mod Firsts
 pub mod Placed
-pub mod Left
+pub mod Holding
 pub mod Laws
 pub mod Whole
 pub mod Steps

@@ -5,11 +5,7 @@ use Rattle.std.specs.List.Sorted.{IsPartitionPoint, IsPartitionedBy}
 use Rattle.forms.specs.Sets.{sub}
 use Rattle.forms.specs.Terms.{In, Ascending}
 use Rattle.forms.specs.Entering.{put, without}
-
-pub in_at : (f : List ℕ) (i d : ℕ) → i < length f → In (get_or f i d) f
-in_at [] i d l = absurd (omega arith)
-in_at (t ∷ f) zero d l = inl refl
-in_at (t ∷ f) (suc i) d l = inr (in_at f i d (omega arith))
+use Rattle.forms.proofs.Entered.{in_at_or}
 
 put_less : (h u : ℕ) (us : List ℕ) → h < u → put h (u ∷ us) ≡ h ∷ put u us
 put_less h u us l = cond-true (ltb h u) (h ∷ put u us) (u ∷ put h us) (lt-ltb h u l)
@@ -52,7 +48,7 @@ without_left t u xs e = without_more t u xs ∙ ap (λ (b : Bool). without t xs 
 pub ascending_le : (xs : List ℕ) → Ascending xs → (i j : ℕ) (d : ℕ) → i ≤ j → j < length xs → get_or xs i d ≤ get_or xs j d
 ascending_le [] a i j d l m = absurd (omega arith)
 ascending_le (x ∷ xs) a zero zero d l m = omega arith
-ascending_le (x ∷ xs) a zero (suc j) d l m = omega (arith, a.0 (get_or xs j d) (in_at xs j d (omega arith)))
+ascending_le (x ∷ xs) a zero (suc j) d l m = omega (arith, a.0 (get_or xs j d) (in_at_or xs j d (omega arith)))
 ascending_le (x ∷ xs) a (suc i) zero d l m = absurd (omega arith)
 ascending_le (x ∷ xs) a (suc i) (suc j) d l m = ascending_le xs a.1 i j d (omega arith) (omega arith)
 
@@ -67,7 +63,7 @@ put_there t xs ys i e a n l p = put_at t xs i a below above
     above : (k : ℕ) → i ≤ k → k < length xs → t < get_or xs k 0
     above k m q =
         let g : t ≤ get_or xs k 0 = ltb-false _ _ (rw e at (p.1 k 0 m (omega (arith, ap length e)))) in
-        let o : t ≡ get_or xs k 0 → ⊥ = λ d. n (subst (λ (y : ℕ). In y xs) (sym d) (in_at xs k 0 q)) in
+        let o : t ≡ get_or xs k 0 → ⊥ = λ d. n (subst (λ (y : ℕ). In y xs) (sym d) (in_at_or xs k 0 q)) in
         omega arith
 
 pub parted : (t : ℕ) (xs ys : List ℕ) → ys ≡ xs → Ascending xs → IsPartitionedBy (λ u. ltb u t) ys

@@ -5,7 +5,7 @@ use Rattle.forms.specs.Faults.{fault_number}
 use Rattle.forms.specs.Terms.{In}
 use Rattle.forms.specs.Entering.{made, declined}
 use Rattle.forms.specs.Parts.{terms_of, outcome}
-use Rattle.forms.proofs.Placed.{in_at}
+use Rattle.forms.proofs.Entered.{in_at_or}
 use Rattle.joins.specs.Joins.{after, max_at, any_at}
 use Rattle.joins.proofs.Passing.{first_more, first_stop, term_stop, max_more, max_stop, term_end}
 use Rattle.joins.proofs.composition.at_terms.Goals as goal
@@ -14,7 +14,7 @@ pub at_term-requires : goal.at_term-requires
 at_term-requires c = c.requires c.args.first (inl refl)
 
 pub at_term-requires-in-loop-term : goal.at_term-requires-in-loop-term
-at_term-requires-in-loop-term c = c.requires c.term-item.result (inr (subst (λ (u : ℕ). In u c.args.others.now) (sym c.term-item.is) (in_at c.args.others.now c.loop-term.term-index c.term-item.result c.loop-term-test.true)))
+at_term-requires-in-loop-term c = c.requires c.term-item.result (inr (subst (λ (u : ℕ). In u c.args.others.now) (sym c.term-item.is) (in_at_or c.args.others.now c.loop-term.term-index c.term-item.result c.loop-term-test.true)))
 
 pub returns-in_err-joined : goal.returns-in_err-joined
 returns-in_err-joined c =

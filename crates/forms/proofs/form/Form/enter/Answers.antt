@@ -10,7 +10,7 @@ use Rattle.forms.specs.Parts.{terms_of, told, Entered}
 use Rattle.forms.proofs.Forms.{Sound, apart, sound_ascending}
 use Rattle.forms.proofs.Entered.{enters, enter_terms, entered, bounded_made, bounded_full, length_enter, enter_minimal, in_without, without_form}
 use Rattle.forms.proofs.Bits.{sub_refl}
-use Rattle.forms.proofs.Left.{holds_covers}
+use Rattle.forms.proofs.Holding.{holds_covers}
 use Rattle.forms.proofs.Whole.{size_most, sets_form, sound_form}
 use Rattle.forms.proofs.form.Form.enter.Goals as goal
 use Rattle.forms.proofs.form.Form.enter.Goals.{then-holds-via-then-holds, then-holds-via-else-holds+then-covers}

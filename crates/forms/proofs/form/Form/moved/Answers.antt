@@ -9,7 +9,7 @@ use Rattle.forms.specs.Places.{Picks, TrueAt}
 use Rattle.forms.specs.Parts.{terms_of}
 use Rattle.forms.proofs.Forms.{Sound, apart, sound_ascending}
 use Rattle.forms.proofs.Moving.{fits_movable, movable_fits, moved_terms, moved_sound, moved_to, moved_from}
-use Rattle.forms.proofs.Placed.{in_at}
+use Rattle.forms.proofs.Entered.{in_at_or}
 use Rattle.forms.proofs.Whole.{sets_form, sound_form}
 use Rattle.forms.proofs.form.Form.moved.Goals as goal
 
@@ -17,7 +17,7 @@ pub slid-requires : goal.slid-requires
 slid-requires c =
     let f : List ℕ = terms_of c.args.self.now in
     let xs : List ℕ = c.terms-term-items.result.now in
-    let here : In c.term-item.result xs = subst (λ (u : ℕ). In u xs) (sym c.term-item.is) (in_at xs c.loop-term.term-index c.term-item.result c.loop-term-test.true) in
+    let here : In c.term-item.result xs = subst (λ (u : ℕ). In u xs) (sym c.term-item.is) (in_at_or xs c.loop-term.term-index c.term-item.result c.loop-term-test.true) in
     let stays = fits_movable c.args.to f (sym c.if-not-stays_at.ensures.exact) c.term-item.result (rw c.terms-term-items.ensures.value at here) in
     rw c.number-place.ensures.value record { cell = omega (arith, c.number-place.ensures.value, c.number-place.ensures.bound); stays = stays }
 
