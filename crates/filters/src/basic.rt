@@ -23,7 +23,7 @@ pub fn erosion(size: Size) -> Form
 
 // The term of all cells of a box.
 fn all_cells(size: Size) -> Term
-    ensures { result.bits ≡ set_of (box size.height size.width) }
+    ensures { result ≡ set_of (box size.height size.width) }
 {
     let mut set = CellSet::empty();
     let mut i = 0;
@@ -55,7 +55,7 @@ fn turned(size: Size) -> Result<Form, Fault>
     let mut form = window();
     let mut i = 0;
     while let Some(cell) = size.cell(i) {
-        form.enter(Term::of(other_side(cell)))?;
+        form.enter(Term::from(other_side(cell)))?;
         i += 1;
     }
     Ok(form)
@@ -63,7 +63,7 @@ fn turned(size: Size) -> Result<Form, Fault>
 
 // The cell on the other side of the middle: the last cell is that of the first.
 fn other_side(cell: Cell) -> Cell
-    ensures { result.number ≡ opposite cell.number }
+    ensures { result ≡ opposite cell }
 {
     match Cell::numbered(Cell::COUNT - 1 - cell.number()) {
         Some(other) => other,

@@ -83,8 +83,8 @@ fn enter_reaching(
     left: u16,
     set: CellSet,
 ) -> Result<(), Fault>
-    requires { left ≡ 0 → 0 < set.bits }
-    ensures { told result (terms_of form.new) ≡ enter_all (map (bit_or set.bits) (reaching (drop from (listed weights.now)) left)) (terms_of form.old) }
+    requires { left ≡ 0 → 0 < set }
+    ensures { told result (terms_of form.new) ≡ enter_all (map (bit_or set) (reaching (drop from (listed weights.now)) left)) (terms_of form.old) }
 {
     if left == 0 {
         return match Term::new(set) {
@@ -103,8 +103,8 @@ fn enter_reaching(
 // The set with the cell of a number.
 fn with(set: CellSet, number: u8) -> CellSet
     requires { number < 63 }
-    ensures value { result.bits ≡ bit_or set.bits (single number) }
-    ensures some { 0 < result.bits }
+    ensures value { result ≡ bit_or set (single number) }
+    ensures some { 0 < result }
 {
     match Cell::numbered(number) {
         Some(cell) => set.with(cell),

@@ -1,5 +1,5 @@
 // The cells of a box.
-ghost use Rattle.std.specs.Prelude.{◌≡◌, ◌*◌, ◌<◌, ◌≤◌, length, Some, None, slice_index};
+ghost use Rattle.std.specs.Prelude.{◌≡◌, ◌*◌, ◌<◌, ◌≤◌, length, slice_index, MatchOption};
 ghost use Rattle.filters.specs.Boxes.{box};
 
 use super::Size;
@@ -15,7 +15,7 @@ impl Size {
 
     // The box's cell with an index, row by row, or `None` from the number of cells on.
     pub(crate) fn cell(self, index: u8) -> Option<Cell>
-        ensures { elim result [ Some k ↦ (index < length (box self.height self.width)) × (k.number ≡ slice_index (box self.height self.width) index) | None ↦ length (box self.height self.width) ≤ index ] }
+        ensures { MatchOption result (length (box self.height self.width) ≤ index) (λ k. (index < length (box self.height self.width)) × (k ≡ slice_index (box self.height self.width) index)) }
     {
         if index >= self.count() {
             return None;

@@ -21,7 +21,7 @@ impl Weights {
     /// Adds a cell whose element counts so often.
     /// Says `false`, and changes nothing, where `MOST_CELLS` stand or this cell does.
     pub fn add(&mut self, cell: Cell, times: u8) -> bool
-        ensures { Added result cell.number times (listed self.old) (listed self.new) }
+        ensures { Added result cell times (listed self.old) (listed self.new) }
     {
         if self.count == MOST_CELLS || !self.lacks(cell) {
             return false;
@@ -40,7 +40,7 @@ impl Weights {
 
     // Whether the cell does not stand yet.
     fn lacks(&self, cell: Cell) -> bool
-        ensures { result ≡ lacks cell.number (listed self.now) }
+        ensures { result ≡ lacks cell (listed self.now) }
     {
         let mut i = 0;
         while let Some(other) = self.weight(i) {

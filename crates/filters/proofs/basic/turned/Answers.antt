@@ -28,7 +28,7 @@ returns-in_err-enter c =
     rw (p.1, p.2)
     (entering_stop (dilation_of c.args.size.height c.args.size.width) (turned_of c.args.size.height c.args.size.width) c.loop-cell.i
     (terms_of c.loop-cell.form) c.loop-cell.invariant (map_below turn b c.loop-cell.i q.0)
-    c.of.result.bits (c.of.ensures ∙ ap single c.other_side.ensures ∙ map_at turn b c.loop-cell.i c.in-Some.cell.number q.0 q.1)
+    c.from.result (c.from.ensures ∙ ap single c.other_side.ensures ∙ map_at turn b c.loop-cell.i c.in-Some.cell q.0 q.1)
     (told c.enter.result h) c.enter.ensures.exact (fault_number c.in_err-enter.field-0.0) (ap (λ r. told r h) c.in_err-enter.was))
 
 pub overflow_add-i : goal.overflow_add-i
@@ -41,7 +41,7 @@ loop-cell-preserved c =
     let q = c.in-Some.ensures in
     entering_more (dilation_of c.args.size.height c.args.size.width) (turned_of c.args.size.height c.args.size.width) c.loop-cell.i
     (terms_of c.loop-cell.form) c.loop-cell.invariant (map_below turn b c.loop-cell.i q.0)
-    c.of.result.bits (c.of.ensures ∙ ap single c.other_side.ensures ∙ map_at turn b c.loop-cell.i c.in-Some.cell.number q.0 q.1)
+    c.from.result (c.from.ensures ∙ ap single c.other_side.ensures ∙ map_at turn b c.loop-cell.i c.in-Some.cell q.0 q.1)
     (told c.enter.result h) c.enter.ensures.exact h (ap (λ r. told r h) c.in_ok-enter.was)
 
 pub returns : goal.returns

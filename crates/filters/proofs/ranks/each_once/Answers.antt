@@ -14,9 +14,9 @@ overflow_add-i c = omega (arith, c.in-Some.ensures, box_length c.args.size.heigh
 pub loop-cell-preserved : goal.loop-cell-preserved
 loop-cell-preserved c =
     let q = c.in-Some.ensures in
-    once_more c.args.size.height c.args.size.width (sides_of_lem c.args.size) c.requires c.loop-cell.i c.in-Some.cell.number q.0 q.1
+    once_more c.args.size.height c.args.size.width (sides_of_lem c.args.size) c.requires c.loop-cell.i c.in-Some.cell q.0 q.1
     c.add.result (listed c.add.new.self)
-    (subst (λ (xs : List Weighed). Added c.add.result c.in-Some.cell.number 1 xs (listed c.add.new.self)) c.loop-cell.invariant c.add.ensures)
+    (subst (λ (xs : List Weighed). Added c.add.result c.in-Some.cell 1 xs (listed c.add.new.self)) c.loop-cell.invariant c.add.ensures)
 
 pub returns : goal.returns
 returns c =

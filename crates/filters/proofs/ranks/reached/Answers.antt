@@ -11,11 +11,11 @@ returns-in_err-enter_reaching c =
     let p = err_from_is_err_and c.from_residual.result c.from_residual.ensures.1 in
     rw (p.1, p.2)
     (c.in_err-enter_reaching.ensures
-    ∙ reached_start c.empty.result.bits (listed c.args.weights.now) c.args.k (terms_of c.window-form.result) c.empty.ensures
+    ∙ reached_start c.empty.result (listed c.args.weights.now) c.args.k (terms_of c.window-form.result) c.empty.ensures
     (cells_of c.args.weights.now) c.requires.1 c.window-form.ensures)
 
 pub returns : goal.returns
 returns c =
     c.in_ok-enter_reaching.ensures
-    ∙ reached_start c.empty.result.bits (listed c.args.weights.now) c.args.k (terms_of c.window-form.result) c.empty.ensures
+    ∙ reached_start c.empty.result (listed c.args.weights.now) c.args.k (terms_of c.window-form.result) c.empty.ensures
     (cells_of c.args.weights.now) c.requires.1 c.window-form.ensures

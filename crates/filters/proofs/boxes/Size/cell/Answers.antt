@@ -1,4 +1,4 @@
-use Rattle.std.proofs.Common.{◌≡◌, ℕ, ◌*◌, ◌<◌, ◌≤◌, length, get_or, Some, None, Option, sym, ◌∙◌, arith}
+use Rattle.std.proofs.Common.{◌≡◌, ℕ, ◌*◌, ◌<◌, ◌≤◌, length, get_or, Some, None, Option, MatchOption, sym, ◌∙◌, arith}
 use Rattle.forms.specs.declared.window.Cell.{Cell}
 use Rattle.filters.specs.declared.boxes.Size.{Size}
 use Rattle.filters.specs.Boxes.{box}
@@ -24,12 +24,8 @@ overflow_add-row-2 c =
     let l : c.args.index < c.args.self.height * c.args.self.width = omega arith in
     omega (arith, number_below c.args.self.height c.args.self.width (sides_of_lem c.args.self) c.args.index l)
 
-boxed : (s : Size) (i : ℕ) → i < s.height * s.width → (o : Option Cell)
-    → elim o as (λ x. Type 0) [ Some k ↦ k.number ≡ box_number s.height s.width i | None ↦ 63 ≤ box_number s.height s.width i ]
-    → elim o as (λ x. Type 0) [
-      | Some k ↦ (i < length (box s.height s.width)) × (k.number ≡ get_or (box s.height s.width) i 0)
-      | None ↦ length (box s.height s.width) ≤ i
-    ]
+boxed : (s : Size) (i : ℕ) → i < s.height * s.width → (o : Option Cell) → MatchOption o (63 ≤ box_number s.height s.width i) (λ k. k ≡ box_number s.height s.width i)
+    → MatchOption o (length (box s.height s.width) ≤ i) (λ k. (i < length (box s.height s.width)) × (k ≡ get_or (box s.height s.width) i 0))
 boxed s i l (Some k) e = (
   omega (arith, box_length s.height s.width),
   e ∙ sym (cell_number s.height s.width (sides_of_lem s) i) ∙ sym (get_d_box s.height s.width i l),

@@ -7,4 +7,4 @@ pub loop-other-smaller : goal.loop-other-smaller
 loop-other-smaller c = omega (arith, c.in-Some.ensures.within.0)
 
 pub returns : goal.returns
-returns c = lacking_all c.args.cell.number (listed c.args.self.now) c.loop-other.i c.loop-other.invariant c.in_default.ensures.next
+returns c = lacking_all c.args.cell (listed c.args.self.now) c.loop-other.i c.loop-other.invariant c.in_default.ensures.next
