@@ -1,8 +1,8 @@
 -- Entering the sets that count enough, by the steps of the recursion, and where the forms are true.
-use Rattle.std.proofs.Common.{◌≡◌, ℕ, zero, suc, ◌+◌, ◌-◌, ◌*◌, ◌≤◌, true, leb, List, [], ◌∷◌, ◌++◌, map, length, drop, ◌+ℤ◌, Some, None, Option, sym, refl, ap, ◌∙◌, subst, ap₂, inl, inr, arith}
+use Rattle.std.proofs.Common.{◌≡◌, ℕ, zero, suc, ◌+◌, ◌-◌, ◌*◌, ◌≤◌, true, leb, List, [], ◌∷◌, ◌++◌, map, length, get_or, take, drop, ◌+ℤ◌, Some, None, Option, sym, refl, ap, ◌∙◌, subst, ap₂, inl, inr, arith}
 use lib.Bits.{bit_or, or_zero_r}
 use Rattle.std.proofs.lemmas.Bool.{and_from, and_right, le-leb, lt-leb}
-use Rattle.std.proofs.lemmas.List.{map-append, map-id, drop_all}
+use Rattle.std.proofs.lemmas.List.{map-append, map-id, take_all}
 use Rattle.forms.specs.declared.form.Form.{Form}
 use Rattle.forms.specs.Window.{row_of, column_of}
 use Rattle.forms.specs.Sets.{single}
@@ -33,10 +33,6 @@ reached_zero s xs zero f e =
     sym (after_made (bounded (enter s f))) ∙ ap (λ (t : ℕ). after (bounded (enter t f)) (λ h. made h)) (sym (or_zero_r s))
 reached_zero s xs (suc k) f e = absurd (omega arith)
 
-pub reached_none : (s : ℕ) (xs : List Weighed) (i k : ℕ) (f : List ℕ) → (k ≡ 0 → ⊥) → length xs ≤ i → made f ≡ reached s (drop i xs) k f
-reached_none s xs i zero f n l = absurd (n refl)
-reached_none s xs i (suc k) f n l = ap (λ (ys : List Weighed). reached s ys (suc k) f) (sym (drop_all i xs l))
-
 map_or : (s c : ℕ) (ts : List ℕ) → map (bit_or s) (map (bit_or c) ts) ≡ map (bit_or (bit_or s c)) ts
 map_or s c [] = refl
 map_or s c (t ∷ ts) = ap₂ (λ (x : ℕ) (y : List ℕ). x ∷ y) (sym (or_assoc s c t)) (map_or s c ts)
@@ -49,22 +45,26 @@ split s x xs (suc k) f n = sym (
     ∙ ap (λ (y : List ℕ). map (bit_or s) (reaching xs (suc k)) ++ y) (map_or s (single x.cell) (reaching xs (suc k - x.times))))
     ∙ all_append (map (bit_or s) (reaching xs (suc k))) (map (bit_or (bit_or s (single x.cell))) (reaching xs (suc k - x.times))) f)
 
--- at the cell i: m is what the sets without it give
-module _ (s : ℕ) (xs : List Weighed) (i k : ℕ) (f : List ℕ) (n : k ≡ 0 → ⊥) (x : Weighed) (q : drop i xs ≡ x ∷ drop (i + 1) xs)
-    (m : Made) (e : m ≡ reached s (drop (i + 1) xs) k f) where
-  both : after m (λ h. reached (bit_or s (single x.cell)) (drop (i + 1) xs) (k - x.times) h) ≡ reached s (drop i xs) k f
+-- a list that is not empty, and its first
+pub first_of : (ys : List Weighed) (x : Weighed) → 1 ≤ length ys → x ≡ get_or ys 0 x → ys ≡ x ∷ take (length ys - 1) (drop 1 ys)
+first_of [] x l e = absurd (omega arith)
+first_of (y ∷ ys) x l e = ap₂ (λ (z : Weighed) (zs : List Weighed). z ∷ zs) (sym e) (sym (take_all (length (y ∷ ys) - 1) ys (omega arith)))
+
+-- of the cells ys the first is x: m is what the sets without it give
+module _ (s : ℕ) (ys : List Weighed) (x : Weighed) (xs : List Weighed) (q : ys ≡ x ∷ xs) (k : ℕ) (f : List ℕ) (n : k ≡ 0 → ⊥) (m : Made) (e : m ≡ reached s xs k f) where
+  both : after m (λ h. reached (bit_or s (single x.cell)) xs (k - x.times) h) ≡ reached s ys k f
   both =
-      ap (λ (y : Made). after y (λ h. reached (bit_or s (single x.cell)) (drop (i + 1) xs) (k - x.times) h)) e
-      ∙ split s x (drop (i + 1) xs) k f n ∙ ap (λ (ys : List Weighed). reached s ys k f) (sym q)
+      ap (λ (y : Made). after y (λ h. reached (bit_or s (single x.cell)) xs (k - x.times) h)) e
+      ∙ split s x xs k f n ∙ ap (λ (zs : List Weighed). reached s zs k f) (sym q)
 
   pub reached_more : (g : List ℕ) (o : Made) (t j : ℕ) → m ≡ made g → t ≡ bit_or s (single x.cell) → j ≡ k - x.times
-      → o ≡ reached t (drop (i + 1) xs) j g → o ≡ reached s (drop i xs) k f
+      → o ≡ reached t xs j g → o ≡ reached s ys k f
   reached_more g o t j r a b z =
-      z ∙ ap₂ (λ (y l : ℕ). reached y (drop (i + 1) xs) l g) a b
-      ∙ ap (λ (y : Made). after y (λ h. reached (bit_or s (single x.cell)) (drop (i + 1) xs) (k - x.times) h)) (sym r) ∙ both
+      z ∙ ap₂ (λ (y l : ℕ). reached y xs l g) a b
+      ∙ ap (λ (y : Made). after y (λ h. reached (bit_or s (single x.cell)) xs (k - x.times) h)) (sym r) ∙ both
 
-  pub reached_stop : (d : ℕ) → m ≡ declined d → declined d ≡ reached s (drop i xs) k f
-  reached_stop d r = ap (λ (y : Made). after y (λ h. reached (bit_or s (single x.cell)) (drop (i + 1) xs) (k - x.times) h)) (sym r) ∙ both
+  pub reached_stop : (d : ℕ) → m ≡ declined d → declined d ≡ reached s ys k f
+  reached_stop d r = ap (λ (y : Made). after y (λ h. reached (bit_or s (single x.cell)) xs (k - x.times) h)) (sym r) ∙ both
 
 -- from no cell on, into the form of the whole window
 counted_all : (xs : List Weighed) → counted (λ c. true) xs ≡ total xs

@@ -6,15 +6,11 @@ use Rattle.std.proofs.lemmas.Int.{ints}
 use Rattle.forms.specs.Window.{row_of, column_of, number_at}
 use Rattle.forms.specs.Terms.{In}
 use Rattle.forms.proofs.Moving.{in_map, map_in}
-use Rattle.filters.specs.declared.boxes.Size.{Size}
 use Rattle.filters.specs.Boxes.{Sides, Spans, BoxLaw, up_from, box_cell, box}
 use Rattle.filters.specs.Basic.{opposite}
 
-pub sides_of_lem : (s : Size) → Sides s.height s.width
-sides_of_lem s = record { some_rows = s.rows; few_rows = s.tall; some_columns = s.columns; few_columns = s.wide }
-
-pub few_cells : (s : Size) → s.height * s.width ≤ 63
-few_cells s = mul-le-mul s.tall s.wide
+pub few_cells : (h w : ℕ) → Sides h w → h * w ≤ 63
+few_cells h w s = mul-le-mul s.few_rows s.few_columns
 
 -- the numbers from a on
 pub length_up : (a n : ℕ) → length (up_from a n) ≡ n
@@ -90,9 +86,9 @@ pub box_in : (h w i : ℕ) → i < h * w → In (box_cell h w i) (box h w)
 unfolding box
 box_in h w i l = map_in (box_cell h w) (up_from 0 (h * w)) i (up_in 0 (h * w) i (omega arith) (omega arith))
 
-pub get_d_box : (h w i : ℕ) → i < h * w → get_or (box h w) i 0 ≡ box_cell h w i
+pub box_at : (h w i : ℕ) → i < h * w → get_or (box h w) i 0 ≡ box_cell h w i
 unfolding box
-get_d_box h w i l =
+box_at h w i l =
     get_or-map (box_cell h w) (up_from 0 (h * w)) i 0 0 (omega (arith, length_up 0 (h * w)))
     ∙ ap (box_cell h w) (get_d_up 0 (h * w) i l ∙ omega arith)
 

@@ -1,7 +1,6 @@
--- Unions of sets, by the turns of loops, and entering into the form of the whole window.
-use Rattle.std.proofs.Common.{◌≡◌, ℕ, ◌+◌, ◌-◌, ◌^◌, ◌<◌, ◌≤◌, Bool, true, false, cond, ◌||◌, List, [], ◌∷◌, length, get_or, drop, sym, refl, ap, ◌∙◌, inl, mod-eq_of_lt, arith, pow_mono}
+-- Unions of sets, and entering into the form of the whole window.
+use Rattle.std.proofs.Common.{◌≡◌, ℕ, ◌+◌, ◌-◌, ◌^◌, ◌<◌, ◌≤◌, Bool, true, false, cond, ◌||◌, List, [], ◌∷◌, ◌++◌, sym, refl, ap, ◌∙◌, inl, mod-eq_of_lt, arith, pow_mono}
 use lib.Bits.{bit_and, bit_or, or_lt, or_zero_r}
-use Rattle.std.proofs.lemmas.List.{drop_more, drop_all}
 use Rattle.std.proofs.lemmas.Nat.{and_mask}
 use Rattle.std.proofs.lemmas.Bool.{eqb-true, eq-eqb}
 use Rattle.forms.specs.Sets.{bit, Sub, sub, single, set_of}
@@ -28,18 +27,10 @@ or_assoc a b c = ext n (bit_or (bit_or a b) c) (bit_or a (bit_or b c)) (or_lt n 
     each : (k : ℕ) → bit (bit_or (bit_or a b) c) k ≡ bit (bit_or a (bit_or b c)) k
     each k = omega (arith, bit_of_or (bit_or a b) c k, bit_of_or a b k, bit_of_or a (bit_or b c) k, bit_of_or b c k)
 
--- the cells of a list, one by one
-abbrev pub Gathering : ℕ → List ℕ → ℕ → Type 0
-Gathering s cs i = bit_or s (set_of (drop i cs)) ≡ set_of cs
-
-pub gathering_more : (s : ℕ) (cs : List ℕ) (i c t : ℕ) → Gathering s cs i → i < length cs → c ≡ get_or cs i 0 → t ≡ bit_or s (single c) → Gathering t cs (i + 1)
-gathering_more s cs i c t g l e q =
-    ap (λ (y : ℕ). bit_or y (set_of (drop (i + 1) cs))) (q ∙ ap (λ (y : ℕ). bit_or s (single y)) e)
-    ∙ or_assoc s (single (get_or cs i 0)) (set_of (drop (i + 1) cs))
-    ∙ ap (λ (y : List ℕ). bit_or s (set_of y)) (sym (drop_more cs i 0 l)) ∙ g
-
-pub gathering_all : (s : ℕ) (cs : List ℕ) (i : ℕ) → Gathering s cs i → length cs ≤ i → s ≡ set_of cs
-gathering_all s cs i g l = sym (or_zero_r s) ∙ ap (λ (y : List ℕ). bit_or s (set_of y)) (sym (drop_all i cs l)) ∙ g
+-- one more cell
+pub set_of_push : (cs : List ℕ) (c : ℕ) → set_of (cs ++ c ∷ []) ≡ bit_or (set_of cs) (single c)
+set_of_push [] c = or_zero_r (single c)
+set_of_push (d ∷ cs) c = ap (bit_or (single d)) (set_of_push cs c) ∙ sym (or_assoc (single d) (set_of cs) (single c))
 
 -- what is entered first into the form of the whole window takes its place
 abbrev pub window : ℕ

@@ -23,18 +23,15 @@ pub fn erosion(size: Size) -> Form
 
 // The term of all cells of a box.
 fn all_cells(size: Size) -> Term
-    ensures { result.bits ≡ set_of (box size.height size.width) }
+    ensures { result ≡ set_of (box size.height size.width) }
 {
-    let mut set = CellSet::empty();
-    let mut i = 0;
-    while let Some(cell) = size.cell(i) {
-        set = set.with(cell);
-        i += 1;
-    }
-    match Term::new(set) {
-        Some(term) => term,
-        None => unreachable(),
-    }
+    let set = size
+        .cells()
+        .fold(CellSet::empty(), |set, cell| set.with(cell));
+    let Some(term) = Term::new(set) else {
+        unreachable()
+    };
+    term
 }
 
 /// The largest over the cells of a box that is turned about the middle.
@@ -42,10 +39,10 @@ pub fn dilation(size: Size) -> Form
     ensures exact { made (terms_of result) ≡ dilation_of size.height size.width }
     ensures truth { Dilates size.height size.width (terms_of result) }
 {
-    match turned(size) {
-        Ok(form) => form,
-        Err(_) => unreachable(),
-    }
+    let Ok(form) = turned(size) else {
+        unreachable()
+    };
+    form
 }
 
 // The cells on the other side of a box's cells, each as a term of its own.
@@ -53,32 +50,30 @@ fn turned(size: Size) -> Result<Form, Fault>
     ensures { outcome result ≡ dilation_of size.height size.width }
 {
     let mut form = window();
-    let mut i = 0;
-    while let Some(cell) = size.cell(i) {
-        form.enter(Term::of(other_side(cell)))?;
-        i += 1;
+    for cell in size.cells() {
+        form.enter(Term::from(other_side(cell)))?;
     }
     Ok(form)
 }
 
 // The cell on the other side of the middle: the last cell is that of the first.
 fn other_side(cell: Cell) -> Cell
-    ensures { result.number ≡ opposite cell.number }
+    ensures { result ≡ opposite cell }
 {
-    match Cell::numbered(Cell::COUNT - 1 - cell.number()) {
-        Some(other) => other,
-        None => unreachable(),
-    }
+    let Some(other) = Cell::numbered(Cell::COUNT - 1 - cell.number()) else {
+        unreachable()
+    };
+    other
 }
 
 // The form of all cells of the window: the first term that is entered takes its place.
 pub(crate) fn window() -> Form
     ensures { terms_of result ≡ (2 ^ 63 - 1) ∷ [] }
 {
-    match Term::numbered((1 << Cell::COUNT) - 1) {
-        Some(term) => Form::single(term),
-        None => unreachable(),
-    }
+    let Some(term) = Term::numbered((1 << Cell::COUNT) - 1) else {
+        unreachable()
+    };
+    Form::single(term)
 }
 
 /// The dilation after the erosion, by one box.
@@ -89,9 +84,7 @@ pub fn opening(size: Size) -> Result<Form, Fault>
     ensures under { Ensured result Under }
     ensures again { Ensured result Again }
 {
-    let eroded = erosion(size);
-    let dilated = dilation(size);
-    compose(&dilated, &eroded)
+    compose(&dilation(size), &erosion(size))
 }
 
 /// The erosion after the dilation, by one box.
@@ -102,7 +95,5 @@ pub fn closing(size: Size) -> Result<Form, Fault>
     ensures over { Ensured result Over }
     ensures again { Ensured result Again }
 {
-    let eroded = erosion(size);
-    let dilated = dilation(size);
-    compose(&eroded, &dilated)
+    compose(&erosion(size), &dilation(size))
 }

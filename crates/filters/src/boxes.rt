@@ -1,5 +1,5 @@
 // Boxes: rows and columns around the middle cell.
-ghost use Rattle.std.specs.Prelude.{◌≡◌, ◌≤◌, Some, None};
+ghost use Rattle.std.specs.Prelude.{◌≡◌, MatchOption};
 ghost use Rattle.filters.specs.Boxes.{Sides};
 
 mod cells;
@@ -9,10 +9,7 @@ mod cells;
 pub struct Size {
     height: u8,
     width: u8,
-    ghost rows: { 1 ≤ height },
-    ghost tall: { height ≤ 9 },
-    ghost columns: { 1 ≤ width },
-    ghost wide: { width ≤ 7 },
+    ghost sides: { Sides height width },
 }
 
 impl Size {
@@ -24,7 +21,7 @@ impl Size {
 
     /// The sides of a box, or `None` where a box may not have them.
     pub fn new(height: u8, width: u8) -> Option<Size>
-        ensures { elim result [ Some s ↦ Sides height width × (s.height ≡ height) × (s.width ≡ width) | None ↦ (Sides height width → ⊥) ] }
+        ensures { MatchOption result (¬ Sides height width) (λ s. Sides height width × (s.height ≡ height) × (s.width ≡ width)) }
     {
         if height == 0 || height > Size::TALLEST || width == 0 || width > Size::WIDEST {
             return None;

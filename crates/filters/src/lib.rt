@@ -10,4 +10,4 @@ mod weights;
 pub use basic::{closing, dilation, erosion, opening};
 pub use boxes::Size;
 pub use ranks::{median, rank, weighted};
-pub use weights::{MOST_CELLS, Weights};
+pub use weights::{MOST_CELLS, Weights, WeightsFault};

@@ -1,18 +1,18 @@
 // Ranks over a box, and weighted ranks.
-ghost use Rattle.std.specs.Prelude.{◌≡◌, ◌*◌, ◌<◌, ◌≤◌, map, drop, bit_or};
-ghost use Rattle.forms.specs.Sets.{single};
-ghost use Rattle.forms.specs.Parts.{terms_of, told, outcome};
+ghost use Rattle.std.specs.Prelude.{◌≡◌, ◌*◌, ◌<◌, ◌≤◌, map, bit_or};
+ghost use Rattle.forms.specs.Parts.{terms_of, told};
 ghost use Rattle.joins.specs.Joins.{enter_all};
 ghost use Rattle.filters.specs.Boxes.{box};
-ghost use Rattle.filters.specs.Basic.{most_cells, total as summed, reaching, weight_of, once, middle};
+ghost use Rattle.filters.specs.Basic.{most_cells, reaching, once, middle};
 ghost use Rattle.filters.specs.Weights.{listed};
 ghost use Rattle.filters.specs.Ranks.{Weighted, Ranked, Middle};
 ghost use Rattle.filters.specs.Laws.{Weighs, Ranks, Provided};
 
 use crate::basic::window;
 use crate::boxes::Size;
+use crate::weighed::Weighed;
 use crate::weights::{MOST_CELLS, Weights};
-use forms::{Cell, CellSet, Fault, Form, Term};
+use forms::{CellSet, Fault, Form, Term};
 
 /// The k-th largest over the cells of a box, where it has at most `MOST_CELLS` and k is from 1 to their number.
 pub fn rank(size: Size, k: u8) -> Option<Form>
@@ -45,10 +45,11 @@ pub fn weighted(weights: &Weights, k: u16) -> Option<Form>
     if k == 0 || k > weights.total() {
         return None;
     }
-    match reached(weights, k) {
-        Ok(form) => Some(form),
-        Err(_) => unreachable(),
-    }
+    let mut form = window();
+    let Ok(()) = enter_reaching(&mut form, weights.as_slice(), k, CellSet::empty()) else {
+        unreachable()
+    };
+    Some(form)
 }
 
 // The cells of a box, each counting once.
@@ -57,57 +58,32 @@ fn each_once(size: Size) -> Weights
     ensures { listed result ≡ once (box size.height size.width) }
 {
     let mut weights = Weights::none();
-    let mut i = 0;
-    while let Some(cell) = size.cell(i) {
+    for cell in size.cells() {
         let _ = weights.add(cell, 1);
-        i += 1;
     }
     weights
 }
 
-// The form of the sets that count k or more.
-fn reached(weights: &Weights, k: u16) -> Result<Form, Fault>
-    requires { (0 < k) × (k ≤ summed (listed weights.now)) }
-    ensures { outcome result ≡ weight_of k (listed weights.now) }
-{
-    let mut form = window();
-    enter_reaching(&mut form, weights, 0, k, CellSet::empty())?;
-    Ok(form)
-}
-
-// Enters the sets of the cells from an index on, with the cells of the set, that count as often as is left.
+// Enters the sets of some of the cells, each with those of a set, that count as often as is left.
 fn enter_reaching(
     form: &mut Form,
-    weights: &Weights,
-    from: usize,
+    weights: &[Weighed],
     left: u16,
     set: CellSet,
 ) -> Result<(), Fault>
-    requires { left ≡ 0 → 0 < set.bits }
-    ensures { told result (terms_of form.new) ≡ enter_all (map (bit_or set.bits) (reaching (drop from (listed weights.now)) left)) (terms_of form.old) }
+    requires { left ≡ 0 → 0 < set }
+    ensures { told result (terms_of form.new) ≡ enter_all (map (bit_or set) (reaching weights.now left)) (terms_of form.old) }
 {
     if left == 0 {
-        return match Term::new(set) {
-            Some(term) => form.enter(term),
-            None => unreachable(),
+        let Some(term) = Term::new(set) else {
+            unreachable()
         };
+        return form.enter(term);
     }
-    let Some(weighed) = weights.weight(from) else {
+    let [weighed, rest @ ..] = weights else {
         return Ok(());
     };
-    enter_reaching(form, weights, from + 1, left, set)?;
-    let rest = left.saturating_sub(u16::from(weighed.times));
-    enter_reaching(form, weights, from + 1, rest, with(set, weighed.cell))
-}
-
-// The set with the cell of a number.
-fn with(set: CellSet, number: u8) -> CellSet
-    requires { number < 63 }
-    ensures value { result.bits ≡ bit_or set.bits (single number) }
-    ensures some { 0 < result.bits }
-{
-    match Cell::numbered(number) {
-        Some(cell) => set.with(cell),
-        None => unreachable(),
-    }
+    enter_reaching(form, rest, left, set)?;
+    let less = left.saturating_sub(u16::from(weighed.times));
+    enter_reaching(form, rest, less, set.with(weighed.cell))
 }

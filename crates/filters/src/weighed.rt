@@ -1,8 +1,9 @@
 // A cell with its weight.
+use forms::Cell;
 
-// A cell's number, and how often its element counts.
+// A cell, and how often its element counts.
 #[derive(Clone, Copy)]
 pub(crate) struct Weighed {
-    pub(crate) cell: u8,
+    pub(crate) cell: Cell,
     pub(crate) times: u8,
 }

@@ -1,79 +1,97 @@
 // Adding cells to weights, and reading them.
-ghost use Rattle.std.specs.Prelude.{◌≡◌, ◌+◌, ◌<◌, ◌≤◌, [], ◌∷◌, length, drop, Some, None};
+ghost use Rattle.std.specs.Prelude.{◌≡◌, ◌<◌, ◌≤◌, [], length};
 ghost use Rattle.filters.specs.Basic.{most_cells, lacks, total as summed};
 ghost use Rattle.filters.specs.Weights.{listed, Added};
 
-use super::{MOST_CELLS, Weights};
+use super::Weights;
 use crate::weighed::Weighed;
 use forms::Cell;
+use std::fmt;
+use tables::{Full, Table};
+
+/// Why a cell was not added to weights.
+#[derive(Clone, Copy, PartialEq, Eq, Debug)]
+pub enum WeightsFault {
+    /// `MOST_CELLS` cells stand already.
+    Full,
+    /// The cell stands already.
+    Repeated,
+}
+
+impl From<Full> for WeightsFault {
+    ghost use Rattle.filters.specs.declared.weights.adding.WeightsFault.TheVariants.{Full};
+
+    ghost from_gives = { λ _ r. r ≡ Full };
+
+    fn from(_full: Full) -> WeightsFault {
+        WeightsFault::Full
+    }
+}
+
+impl fmt::Display for WeightsFault {
+    fn fmt<W: fmt::Write>(&self, f: &mut fmt::Formatter<W>) -> fmt::Result {
+        match self {
+            WeightsFault::Full => f.write_str("no more cells may be weighed"),
+            WeightsFault::Repeated => f.write_str("the cell is weighed already"),
+        }
+    }
+}
 
 impl Weights {
     /// No cells.
     pub fn none() -> Weights
         ensures { listed result ≡ [] }
     {
+        // Any cell fills a table of none.
+        let Some(cell) = Cell::numbered(0) else {
+            unreachable()
+        };
         Weights {
-            all: [Weighed { cell: 0, times: 0 }; MOST_CELLS],
-            count: 0,
+            table: Table::new(Weighed { cell, times: 0 }),
         }
     }
 
     /// Adds a cell whose element counts so often.
-    /// Says `false`, and changes nothing, where `MOST_CELLS` stand or this cell does.
-    pub fn add(&mut self, cell: Cell, times: u8) -> bool
-        ensures { Added result cell.number times (listed self.old) (listed self.new) }
+    /// Declined with `Full` where `MOST_CELLS` stand, and else with `Repeated` where this cell does;
+    /// then nothing changes.
+    pub fn add(&mut self, cell: Cell, times: u8) -> Result<(), WeightsFault>
+        ensures { Added result cell times (listed self.old) (listed self.new) }
     {
-        if self.count == MOST_CELLS || !self.lacks(cell) {
-            return false;
+        let mut table = self.table;
+        table.push(Weighed { cell, times })?;
+        if !self.lacks(cell) {
+            return Err(WeightsFault::Repeated);
         }
-        let mut all = self.all;
-        all[self.count] = Weighed {
-            cell: cell.number(),
-            times,
-        };
-        *self = Weights {
-            all,
-            count: self.count + 1,
-        };
-        true
+        *self = Weights { table };
+        Ok(())
     }
 
-    // Whether the cell does not stand yet.
+    // Whether the cell, which is one of the window, does not stand yet.
     fn lacks(&self, cell: Cell) -> bool
-        ensures { result ≡ lacks cell.number (listed self.now) }
+        ensures value { result ≡ lacks cell (listed self.now) }
+        ensures window { cell < 63 }
     {
-        let mut i = 0;
-        while let Some(other) = self.weight(i) {
-            if other.cell == cell.number() {
-                return false;
-            }
-            i += 1;
-        }
-        true
+        let number = cell.number();
+        self.as_slice()
+            .iter()
+            .all(|weighed| weighed.cell.number() != number)
     }
 
     // The sum of the times.
     pub(crate) fn total(&self) -> u16
         ensures { result ≡ summed (listed self.now) }
     {
-        let mut sum = 0;
-        let mut i = 0;
-        while let Some(weighed) = self.weight(i) {
-            sum += u16::from(weighed.times);
-            i += 1;
-        }
-        sum
+        self.as_slice()
+            .iter()
+            .map(|weighed| u16::from(weighed.times))
+            .sum()
     }
 
-    // The cell with an index and its times, or `None` from the number of cells on.
-    pub(crate) fn weight(&self, index: usize) -> Option<Weighed>
-        ensures next { elim result [ Some x ↦ drop index (listed self.now) ≡ x ∷ drop (index + 1) (listed self.now) | None ↦ length (listed self.now) ≤ index ] }
-        ensures within { elim result [ Some x ↦ (index < most_cells) × (x.cell < 63) | None ↦ Unit {0} ] }
+    // The cells and their times, in the order in which they were added.
+    pub(crate) fn as_slice(&self) -> &[Weighed]
+        ensures items { result.now ≡ listed self.now }
+        ensures room { length (listed self.now) ≤ most_cells }
     {
-        if index < self.count {
-            Some(self.all[index])
-        } else {
-            None
-        }
+        self.table.as_slice()
     }
 }

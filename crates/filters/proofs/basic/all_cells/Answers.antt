@@ -1,27 +1,25 @@
-use Rattle.std.proofs.Common.{ℕ, List, refl, ◌∙◌, inl, arith}
-use Rattle.forms.specs.Sets.{set_of}
+use Rattle.std.proofs.Common.{◌≡◌, ℕ, List, [], ◌∷◌, ◌++◌, sym, refl, ap, ◌∙◌, inl, arith, rules}
+use lib.Bits.{bit_or}
+use Rattle.std.specs.Iterator.{YieldsFirstBy}
+use Rattle.std.proofs.lemmas.Fn.{fold_over}
+use Rattle.std.proofs.lemmas.Iterator.Consumers.{YieldsList-from_first}
+use Rattle.forms.specs.Sets.{single, set_of}
 use Rattle.filters.specs.Boxes.{box}
-use Rattle.filters.proofs.Spans.{sides_of_lem, few_cells}
-use Rattle.filters.proofs.Truths.{box_length, erosion_sets}
-use Rattle.filters.proofs.Unions.{gathering_more, gathering_all}
+use Rattle.filters.proofs.Truths.{erosion_sets}
+use Rattle.filters.proofs.Unions.{set_of_push}
 use Rattle.filters.proofs.basic.all_cells.Goals as goal
+use Rattle.filters.proofs.basic.all_cells.Goals.{After-new}
 
-pub overflow_add-i : goal.overflow_add-i
-overflow_add-i c = omega (arith, c.in-Some.ensures, box_length c.args.size.height c.args.size.width, few_cells c.args.size)
-
-pub loop-cell-preserved : goal.loop-cell-preserved
-loop-cell-preserved c =
-    let q = c.in-Some.ensures in
-    gathering_more c.loop-cell.set.bits (box c.args.size.height c.args.size.width) c.loop-cell.i
-    c.in-Some.cell.number c.with-set.result.bits c.loop-cell.invariant q.0 q.1 c.with-set.ensures.value
+gathered : (c : After-new) → c.fold-set.result ≡ set_of (box c.args.size.height c.args.size.width)
+gathered c =
+    fold_over (YieldsFirstBy (λ x. x) (λ s. s)) (λ x. x) _ (λ ys a. a ≡ set_of ys) _
+    (λ ys a x r q h k. let w : r ≡ bit_or a (single x) = search rules in (w ∙ ap (λ (s : ℕ). bit_or s (single x)) h ∙ sym (set_of_push ys x), refl))
+    c.cells.result _ _ _ (YieldsList-from_first (λ x. x) (λ s. s) _ c.cells.ensures).runs c.empty.ensures c.fold-set.ensures.ran
 
 pub unreachable-requires : goal.unreachable-requires
 unreachable-requires c =
     let b : List ℕ = box c.args.size.height c.args.size.width in
-    let e = gathering_all c.loop-cell.set.bits b c.loop-cell.i c.loop-cell.invariant c.in_default.ensures in
-    omega (arith, e, c.in-None.ensures, (erosion_sets c.args.size.height c.args.size.width (sides_of_lem c.args.size) (set_of b) (inl refl)).0)
+    omega (arith, gathered c.before, c.in_default.ensures, (erosion_sets c.args.size.height c.args.size.width c.args.size.sides (set_of b) (inl refl)).0)
 
 pub returns : goal.returns
-returns c =
-    c.in-Some-new.ensures
-    ∙ gathering_all c.loop-cell.set.bits (box c.args.size.height c.args.size.width) c.loop-cell.i c.loop-cell.invariant c.in_default.ensures
+returns c = c.in-Some.ensures ∙ gathered c.before

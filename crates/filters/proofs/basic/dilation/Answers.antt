@@ -1,7 +1,6 @@
 use Rattle.std.proofs.Common.{◌∙◌}
 use Rattle.forms.specs.Faults.{fault_number}
 use Rattle.forms.specs.Parts.{terms_of}
-use Rattle.filters.proofs.Spans.{sides_of_lem}
 use Rattle.filters.proofs.Truths.{dilation_made}
 use Rattle.filters.proofs.Unions.{never_declined}
 use Rattle.filters.proofs.Laws.{dilates}
@@ -9,11 +8,11 @@ use Rattle.filters.proofs.basic.dilation.Goals as goal
 
 pub unreachable-requires : goal.unreachable-requires
 unreachable-requires c =
-    let d = dilation_made c.args.size.height c.args.size.width (sides_of_lem c.args.size) in
-    never_declined (fault_number c.in-Err.field-0) d.0 (c.in-Err.ensures ∙ d.1)
+    let d = dilation_made c.args.size.height c.args.size.width c.args.size.sides in
+    never_declined (fault_number c.in_default.field-0) d.0 (c.in_default.ensures ∙ d.1)
 
 pub returns : goal.returns
 returns c = record {
   exact = c.in-Ok.ensures;
-  truth = dilates c.args.size.height c.args.size.width (sides_of_lem c.args.size) (terms_of c.in-Ok.form) c.in-Ok.ensures;
+  truth = dilates c.args.size.height c.args.size.width c.args.size.sides (terms_of c.in-Ok.form) c.in-Ok.ensures;
 }

@@ -1,7 +1,7 @@
 use Rattle.std.proofs.Common.{◌≡◌, ℕ, [], ◌∷◌, ap, ◌∙◌}
 use Rattle.forms.specs.Parts.{terms_of}
 use Rattle.filters.specs.Basic.{erosion_of}
-use Rattle.filters.proofs.Spans.{sides_of_lem, box_law}
+use Rattle.filters.proofs.Spans.{box_law}
 use Rattle.filters.proofs.Laws.{erodes}
 use Rattle.filters.proofs.basic.erosion.Goals as goal
 
@@ -11,6 +11,6 @@ returns c =
     c.single.ensures ∙ ap (λ (t : ℕ). t ∷ []) c.all_cells.ensures in
     record {
       exact = e;
-      truth = erodes c.args.size.height c.args.size.width (sides_of_lem c.args.size) (terms_of c.single.result) e;
-      cells = box_law c.args.size.height c.args.size.width (sides_of_lem c.args.size);
+      truth = erodes c.args.size.height c.args.size.width c.args.size.sides (terms_of c.single.result) e;
+      cells = box_law c.args.size.height c.args.size.width c.args.size.sides;
     }

@@ -2,8 +2,5 @@ use Rattle.std.proofs.Common.{arith}
 use Rattle.filters.proofs.Spans.{opposite_is}
 use Rattle.filters.proofs.basic.other_side.Goals as goal
 
-pub unreachable-requires : goal.unreachable-requires
-unreachable-requires c = omega (arith, c.in-None.ensures)
-
 pub returns : goal.returns
-returns c = omega (arith, c.in-Some.ensures, c.number.ensures.value, opposite_is c.args.cell.number c.args.cell.within)
+returns c = omega (arith, c.in-Some.ensures, c.number.ensures.value, opposite_is c.args.cell (omega (arith, c.number.ensures.value, c.number.ensures.bound)))

@@ -1,13 +1,10 @@
-use Rattle.std.proofs.Common.{◌-◌, length}
+use Rattle.std.proofs.Common.{◌≡◌, map}
+use Rattle.forms.specs.Sets.{single}
 use Rattle.forms.specs.Parts.{terms_of}
-use Rattle.joins.proofs.Turns.{Entering}
-use Rattle.filters.specs.Boxes.{box}
-use Rattle.filters.specs.Basic.{dilation_of}
-use Rattle.filters.proofs.Truths.{turned_of}
+use Rattle.joins.specs.Joins.{enter_all}
+use Rattle.filters.specs.Basic.{opposite, dilation_of}
 use Rattle.filters.proofs.basic.turned.Given as goal
 
+-- with the cells that are left, the form comes to what it has to be
 abbrev pub invariant-loop-cell : goal.invariant-loop-cell
-invariant-loop-cell l = Entering (dilation_of l.size.height l.size.width) (turned_of l.size.height l.size.width) l.i (terms_of l.form)
-
-abbrev pub decreases-loop-cell : goal.decreases-loop-cell
-decreases-loop-cell l = length (box l.size.height l.size.width) - l.i
+invariant-loop-cell l = enter_all (map (λ c. single (opposite c)) l.cell-iterator) (terms_of l.form) ≡ dilation_of l.fn.size.height l.fn.size.width

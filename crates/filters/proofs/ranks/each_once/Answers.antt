@@ -1,24 +1,22 @@
-use Rattle.std.proofs.Common.{List, ap, ◌∙◌, subst, arith}
-use Rattle.std.proofs.lemmas.List.{take_all}
+use Rattle.std.proofs.Common.{◌≡◌, ℕ, List, [], ◌∷◌, ◌++◌, append-nil, sym, ap, ◌∙◌}
 use Rattle.filters.specs.Boxes.{box}
 use Rattle.filters.specs.Basic.{Weighed, once}
-use Rattle.filters.specs.Weights.{listed, Added}
-use Rattle.filters.proofs.Spans.{sides_of_lem}
-use Rattle.filters.proofs.Truths.{box_length}
+use Rattle.filters.specs.Weights.{listed}
 use Rattle.filters.proofs.Weighing.{once_more}
 use Rattle.filters.proofs.ranks.each_once.Goals as goal
 
-pub overflow_add-i : goal.overflow_add-i
-overflow_add-i c = omega (arith, c.in-Some.ensures, box_length c.args.size.height c.args.size.width, c.requires)
+pub loop-cell-init : goal.loop-cell-init
+loop-cell-init c =
+    ap (λ (xs : List Weighed). xs ++ once c.into_iter-cell-iterator.result) c.none-weights.ensures
+    ∙ ap once (c.into_iter-cell-iterator.ensures.into_iter_gives ∙ c.cells-cell-items.ensures)
 
 pub loop-cell-preserved : goal.loop-cell-preserved
 loop-cell-preserved c =
-    let q = c.in-Some.ensures in
-    once_more c.args.size.height c.args.size.width (sides_of_lem c.args.size) c.requires c.loop-cell.i c.in-Some.cell.number q.0 q.1
-    c.add.result (listed c.add.new.self)
-    (subst (λ (xs : List Weighed). Added c.add.result c.in-Some.cell.number 1 xs (listed c.add.new.self)) c.loop-cell.invariant c.add.ensures)
+    once_more c.args.size.height c.args.size.width c.args.size.sides c.requires (listed c.loop-cell.weights) c.in-Some.cell c.next.new.self
+    (ap (λ (cs : List ℕ). listed c.loop-cell.weights ++ once cs) (sym c.in-Some.ensures.steps) ∙ c.loop-cell.invariant)
+    c.add.result (listed c.add.new.self) c.add.ensures
 
 pub returns : goal.returns
 returns c =
-    c.loop-cell.invariant
-    ∙ ap once (take_all c.loop-cell.i (box c.args.size.height c.args.size.width) c.in_default.ensures)
+    sym (append-nil (listed c.loop-cell.weights))
+    ∙ ap (λ (cs : List ℕ). listed c.loop-cell.weights ++ once cs) (sym c.in-None.ensures.steps.0) ∙ c.loop-cell.invariant

@@ -1,42 +1,33 @@
-use Rattle.std.proofs.Common.{◌≡◌, ℕ, ◌*◌, ◌<◌, ◌≤◌, length, get_or, Some, None, Option, sym, ◌∙◌, arith}
-use Rattle.forms.specs.declared.window.Cell.{Cell}
-use Rattle.filters.specs.declared.boxes.Size.{Size}
-use Rattle.filters.specs.Boxes.{box}
-use Rattle.filters.proofs.Spans.{sides_of_lem, row_below, box_number, cell_number, number_below, get_d_box}
+use Rattle.std.proofs.Common.{◌≡◌, ℕ, ◌*◌, ◌<◌, ◌≤◌, Some, None, Option, MatchOption, slice_get, sym, ap, ◌∙◌, arith}
+use Rattle.std.proofs.lemmas.Option.{slice_get-get_or, slice_get_past}
+use Rattle.filters.specs.Boxes.{Sides, box}
+use Rattle.filters.proofs.Spans.{row_below, box_number, cell_number, number_below, box_at}
 use Rattle.filters.proofs.Truths.{box_length}
 use Rattle.filters.proofs.boxes.Size.cell.Goals as goal
 
 pub returns-then-index-count : goal.returns-then-index-count
-returns-then-index-count c = omega (arith, box_length c.args.self.height c.args.self.width)
+returns-then-index-count c = sym (slice_get_past (box c.args.self.height c.args.self.width) c.args.index (omega (arith, box_length c.args.self.height c.args.self.width)))
 
 pub overflow_add-row : goal.overflow_add-row
 overflow_add-row c =
     let l : c.args.index < c.args.self.height * c.args.self.width = omega arith in
-    omega (arith, row_below c.args.self.height c.args.self.width (sides_of_lem c.args.self) c.args.index l)
+    omega (arith, row_below c.args.self.height c.args.self.width c.args.self.sides c.args.index l)
 
 pub overflow_mul-row : goal.overflow_mul-row
 overflow_mul-row c =
     let l : c.args.index < c.args.self.height * c.args.self.width = omega arith in
-    omega (arith, number_below c.args.self.height c.args.self.width (sides_of_lem c.args.self) c.args.index l)
+    omega (arith, number_below c.args.self.height c.args.self.width c.args.self.sides c.args.index l)
 
 pub overflow_add-row-2 : goal.overflow_add-row-2
 overflow_add-row-2 c =
     let l : c.args.index < c.args.self.height * c.args.self.width = omega arith in
-    omega (arith, number_below c.args.self.height c.args.self.width (sides_of_lem c.args.self) c.args.index l)
+    omega (arith, number_below c.args.self.height c.args.self.width c.args.self.sides c.args.index l)
 
-boxed : (s : Size) (i : ℕ) → i < s.height * s.width → (o : Option Cell)
-    → elim o as (λ x. Type 0) [ Some k ↦ k.number ≡ box_number s.height s.width i | None ↦ 63 ≤ box_number s.height s.width i ]
-    → elim o as (λ x. Type 0) [
-      | Some k ↦ (i < length (box s.height s.width)) × (k.number ≡ get_or (box s.height s.width) i 0)
-      | None ↦ length (box s.height s.width) ≤ i
-    ]
-boxed s i l (Some k) e = (
-  omega (arith, box_length s.height s.width),
-  e ∙ sym (cell_number s.height s.width (sides_of_lem s) i) ∙ sym (get_d_box s.height s.width i l),
-)
-boxed s i l None e = absurd (omega (arith, number_below s.height s.width (sides_of_lem s) i l))
+boxed : (h w : ℕ) → Sides h w → (i : ℕ) → i < h * w → (o : Option ℕ) → MatchOption o (63 ≤ box_number h w i) (λ k. k ≡ box_number h w i)
+    → o ≡ slice_get (box h w) i
+boxed h w s i l (Some k) e =
+    ap Some (e ∙ sym (cell_number h w s i) ∙ sym (box_at h w i l)) ∙ sym (slice_get-get_or (box h w) i 0 (omega (arith, box_length h w)))
+boxed h w s i l None e = absurd (omega (arith, number_below h w s i l))
 
 pub returns : goal.returns
-returns c =
-    let l : c.args.index < c.args.self.height * c.args.self.width = omega arith in
-    boxed c.args.self c.args.index l c.numbered.result c.numbered.ensures
+returns c = boxed c.args.self.height c.args.self.width c.args.self.sides c.args.index (omega arith) c.numbered.result c.numbered.ensures

@@ -1,6 +1,10 @@
+use Rattle.std.proofs.Common.{◌≡◌, sym, ◌∙◌, rules}
+use Rattle.std.specs.List.{sum_by}
 use Rattle.filters.specs.Weights.{listed}
-use Rattle.filters.proofs.Weighing.{summing_all}
+use Rattle.filters.proofs.Weighing.{total_sum}
 use Rattle.filters.proofs.weights.Weights.total.Goals as goal
 
 pub returns : goal.returns
-returns c = summing_all c.loop-weighed.sum (listed c.args.self.now) c.loop-weighed.i c.loop-weighed.invariant.0 c.in_default.ensures.next
+returns c =
+    let e : c.sum.result ≡ sum_by (λ x. x.times) (listed c.args.self.now) = search rules in
+    e ∙ sym (total_sum (listed c.args.self.now))
