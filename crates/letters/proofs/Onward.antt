@@ -1,6 +1,9 @@
 -- The tokens from a place on: the first, and those from its end on.
-use Rattle.std.proofs.Common.{◌≡◌, ℕ, zero, suc, ◌+◌, ◌<◌, ◌≤◌, List, [], ◌∷◌, length, drop, ℤ, Ok, Err, sym, refl, ap, ◌∙◌, add_assoc, arith, length-drop, drop-drop, Bor}
+use Rattle.std.proofs.Common.{◌≡◌, ℕ, zero, suc, ◌+◌, ◌-◌, ◌<◌, ◌≤◌, min, max, List, [], ◌∷◌, length, take, drop, ℤ, Some, Ok, Err, ⊎_elim, sym, refl, ap, ◌∙◌, add_assoc, arith, length-drop, drop-drop, Bor}
 use Rattle.std.specs.List.{prefix_len}
+use Rattle.std.proofs.lemmas.List.Sums.{prefix_len-le-length}
+use Rattle.std.proofs.lemmas.List.{drop_all, take_all}
+use Rattle.std.proofs.str.Laws.{order}
 use Rattle.letters.specs.declared.tokens.Sign.{Sign}
 use Rattle.letters.specs.declared.tokens.Token.{Token}
 use Rattle.letters.specs.declared.tokens.Token.TheVariants.{Word, Number, Mark, End}
@@ -8,7 +11,7 @@ use Rattle.letters.specs.declared.tokens.Found.{Found}
 use Rattle.letters.specs.declared.faults.LettersFault.{LettersFault}
 use Rattle.letters.specs.Bytes.{blank}
 use Rattle.letters.specs.Tokens.{Tok, word, number, sign, finish, wrong, Placed}
-use Rattle.letters.specs.Scanning.{Cut, Gives, Finds, Next, tok_of, cut_of, onward, tokens_by, tokens_at}
+use Rattle.letters.specs.Scanning.{Cut, Cuts, Gives, Finds, Next, tok_of, cut_of, onward, tokens_by, tokens_at}
 use Rattle.letters.proofs.Cuts.{cut_sized, cut_within, cut_takes}
 
 -- what follows a token is asked for only where the token takes bytes
@@ -72,6 +75,34 @@ declines text at e g =
     let c : Cut = cut_of (drop p text) in
     tokens_next text at ∙ ap (λ (t : Tok). record { place = p; tok = t } ∷ onward t (tokens_at text (p + c.size))) (sym g.0)
     ∙ ap (λ (i : ℕ). record { place = i; tok = wrong } ∷ []) (sym g.1)
+
+-- the part from a place to the end
+pub to_end : (m : ℕ) (xs : List ℕ) → take (length xs - m) (drop m xs) ≡ drop m xs
+to_end m xs = take_all (length xs - m) (drop m xs) (omega (arith, length-drop m xs))
+
+drop_within : (text : List ℕ) (at : ℕ) → drop (min at (length text)) text ≡ drop at text
+drop_within text at = ⊎_elim (λ l. let e : min at (length text) ≡ at = omega arith in ap (λ i. drop i text) e) (λ g. drop_all _ text (omega arith) ∙ sym (drop_all at text (omega arith))) (order at (length text))
+
+-- what is cut behind the blanks at a place, which may be behind the end
+module _ (text : List ℕ) (at m k : ℕ) (is : m ≡ min at (length text)) (rest bs : List ℕ) (r : rest ≡ drop m text) (f : bs ≡ drop k rest) (blanks : k ≡ prefix_len blank rest) where
+  left_is : rest ≡ drop at text
+  left_is = r ∙ ap (λ i. drop i text) is ∙ drop_within text at
+
+  start_is : at + k ≡ start_of text at
+  start_is = ap (λ i. at + i) (blanks ∙ ap (prefix_len blank) left_is)
+
+  cut_is : cut_of bs ≡ cut_of (drop (start_of text at) text)
+  cut_is = ap cut_of f ∙ ap (λ (z : List ℕ). cut_of (drop k z)) left_is ∙ ap cut_of (drop-drop k at text) ∙ ap (λ i. cut_of (drop i text)) start_is
+
+  pub cut_found : (t : Token) (n : ℕ) → Cuts (Some (t, n)) (cut_of bs) → Finds text at (record { token = t; place = at + k; end = at + k + n })
+  cut_found t n c =
+      finds text at _ (c.0 ∙ ap (λ (x : Cut). x.tok) cut_is, start_is, (let e = ap (λ (x : Cut). x.size) cut_is in omega (arith, start_is, c.1)))
+
+  pub cut_declined : wrong ≡ (cut_of bs).tok → Next (Err (record { place = at + k })) text at
+  cut_declined c = declines text at _ (c ∙ ap (λ (x : Cut). x.tok) cut_is, start_is)
+
+  pub cut_fits : (t : Token) (n : ℕ) → Cuts (Some (t, n)) (cut_of bs) → at + k + n ≤ max at (length text)
+  cut_fits t n c = omega (arith, c.1, cut_within bs, ap length f, length-drop k rest, ap length r, length-drop m text, prefix_len-le-length blank rest)
 
 -- there is always a token, the end at last
 pub tokens_some : (text : List ℕ) (at : ℕ) → tokens_at text at ≡ [] → ⊥
