@@ -139,9 +139,6 @@ pub rule_kept : (w : Weights) (k : ℕ) → k ≤ total (listed w) → weight_ru
 rule_kept w k l =
     ap₂ ◌&&◌ (ap₂ ◌&&◌ (le-leb (length (listed w)) most_cells (omega (arith, listed_length w, w.room))) w.apart) (le-leb k (total (listed w)) l)
 
-pub rule_broken : (k : ℕ) (xs : List Weighed) → few xs ≡ false → weight_rule k xs ≡ false
-rule_broken k xs e = ap (λ (b : Bool). b && leb k (total xs)) e
-
 -- ---- the whole call
 
 module _ (at k : ℕ) (ts us vs : Toks) (s : sign_of OpenRound ts ≡ ok us) (a : amount_of 1 most_weight us ≡ read k vs) where
@@ -152,9 +149,6 @@ module _ (at k : ℕ) (ts us vs : Toks) (s : sign_of OpenRound ts ≡ ok us) (a 
 
   fewer : length vs ≤ length us
   fewer = omega (arith, amount_fewer 1 most_weight k us vs a)
-
-  pub weighted_fault : (p : Part) (n place : ℕ) → ((m : ℕ) → length vs ≤ m → weights_of m vs ≡ bad p n place) → weighted_of at ts ≡ bad p n place
-  weighted_fault p n place h = begun ∙ ap (λ (o : Out (Read (List Weighed))). bind o (λ xs. ruled at (weight_rule k xs.got) (read (weight at k xs.got) xs.rest))) (h (length us) fewer)
 
   abbrev Listed : Option Weights → Toks → Type 0
   Listed w rest = (m : ℕ) → length vs ≤ m → (xs : List Weighed) × (weights_of m vs ≡ read xs rest) × Lists w xs
@@ -168,15 +162,3 @@ module _ (at k : ℕ) (ts us vs : Toks) (s : sign_of OpenRound ts ≡ ok us) (a 
   weighted_ok w rest h l =
       let (xs, e, q) = h (length us) fewer in
       ruled_by (listed w) rest true (subst (λ (ys : List Weighed). weights_of (length us) vs ≡ read ys rest) (sym q) e) (rule_kept w k l)
-
-  pub weighted_above : (w : Weights) (rest : Toks) → Listed (Some w) rest → total (listed w) < k → weighted_of at ts ≡ bad Grammar 7 at
-  weighted_above w rest h l =
-      let (xs, e, q) = h (length us) fewer in
-      ruled_by (listed w) rest false (subst (λ (ys : List Weighed). weights_of (length us) vs ≡ read ys rest) (sym q) e) (rule_above (few (listed w)) (refuted (leb k (total (listed w))) (λ e. omega (arith, leb-true k (total (listed w)) e))))
-    where
-      rule_above : (b : Bool) {d : Bool} → d ≡ false → (b && d) ≡ false
-      rule_above true e = e
-      rule_above false e = refl
-
-  pub weighted_broken : (rest : Toks) → Listed None rest → weighted_of at ts ≡ bad Grammar 7 at
-  weighted_broken rest h = let (xs, e, q) = h (length us) fewer in ruled_by xs rest false e (rule_broken k xs q)

@@ -21,9 +21,6 @@ unfolding expr_of
 expr_in_lem zero ts = refl
 expr_in_lem (suc d) ts = refl
 
-pub expr_first : (d place : ℕ) (t : Tok) (ts us : Toks) → ts ≡ record { place = place; tok = t } ∷ us → expr_of d ts ≡ expr_at (room_of d) t place us
-expr_first d place t ts us e = expr_in_lem d ts ∙ ap (expr_in (room_of d)) e
-
 -- what is read behind the beginning
 abbrev pub go_on : ℕ → Out Begun → Out (Read Expr)
 go_on d (ok (at_cell us)) = bind (cell_of us) (λ c. read (cell c.got) c.rest)

@@ -8,18 +8,8 @@ use Rattle.letters.specs.Tokens.{AllOf, number, wrong}
 use Rattle.letters.specs.Scanning.{is_numeral, value_of, number_of}
 use Rattle.letters.proofs.Runs.{run_all}
 
-all_at_lem : (p : ℕ → Bool) (xs : List ℕ) → AllOf p xs → (i : ℕ) → i < length xs → p (get_or xs i 0) ≡ true
-all_at_lem p [] a i l = absurd (omega arith)
-all_at_lem p (x ∷ xs) a zero l = a.0
-all_at_lem p (x ∷ xs) a (suc i) l = all_at_lem p xs a.1 i (omega arith)
-
 pub digit_is : (b : ℕ) → digit b ≡ true → (48 ≤ b) × (b ≤ 57)
 digit_is b e = let h = and_parts (leb 48 b) (leb b 57) e in (leb-true 48 b h.0, leb-true b 57 h.1)
-
-pub digits_all : (s : List ℕ) (n : ℕ) → n ≡ prefix_len digit s → (i : ℕ) → i < length (take n s) → (48 ≤ get_or (take n s) i 0) × (get_or (take n s) i 0 ≤ 57)
-digits_all s n e i l =
-    let a : AllOf digit (take n s) = subst (λ (k : ℕ). AllOf digit (take k s)) (sym e) (run_all digit s) in
-    digit_is (get_or (take n s) i 0) (all_at_lem digit (take n s) a i l)
 
 -- the number that digits say, where they are taken
 abbrev pub Said : Bool → List ℕ → ℕ → Type 0

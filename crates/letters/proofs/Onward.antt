@@ -103,34 +103,3 @@ module _ (text : List ℕ) (at m k : ℕ) (is : m ≡ min at (length text)) (res
 
   pub cut_fits : (t : Token) (n : ℕ) → Cuts (Some (t, n)) (cut_of bs) → at + k + n ≤ max at (length text)
   cut_fits t n c = omega (arith, c.1, cut_within bs, ap length f, length-drop k rest, ap length r, length-drop m text, prefix_len-le-length blank rest)
-
--- there is always a token, the end at last
-pub tokens_some : (text : List ℕ) (at : ℕ) → tokens_at text at ≡ [] → ⊥
-tokens_some text at e = let n = tokens_next text at in let z : ◌≡◌ {A = ℕ} 0 1 = cc in omega arith
-
-end_only : (t : Token) → tok_of t ≡ finish → t ≡ End
-end_only (Word w) e = let z : ◌≡◌ {A = ℕ} 0 1 = cc in absurd (omega arith)
-end_only (Number z) e = let z : ◌≡◌ {A = ℕ} 0 1 = cc in absurd (omega arith)
-end_only (Mark s) e = let z : ◌≡◌ {A = ℕ} 0 1 = cc in absurd (omega arith)
-end_only End e = refl
-
--- the tokens from a place on, by the token that was found there
-module _ (text : List ℕ) (at : ℕ) (f : Found) (h : Finds text at f) where
-  by_token : (t : Token) → f.token ≡ t → tokens_at text at ≡ record { place = f.place; tok = tok_of t } ∷ onward (tok_of t) (tokens_at text f.end)
-  by_token t e = h.tokens ∙ ap (λ (u : Token). record { place = f.place; tok = tok_of u } ∷ onward (tok_of u) (tokens_at text f.end)) e
-
-  pub finds_word : (w : Bor (List ℕ)) → f.token ≡ Word w → tokens_at text at ≡ record { place = f.place; tok = word w.now } ∷ tokens_at text f.end
-  finds_word w e = by_token (Word w) e
-
-  pub finds_number : (z : ℤ) → f.token ≡ Number z → tokens_at text at ≡ record { place = f.place; tok = number z } ∷ tokens_at text f.end
-  finds_number z e = by_token (Number z) e
-
-  pub finds_mark : (s : Sign) → f.token ≡ Mark s → tokens_at text at ≡ record { place = f.place; tok = sign s } ∷ tokens_at text f.end
-  finds_mark s e = by_token (Mark s) e
-
-  pub finds_end : f.token ≡ End → tokens_at text at ≡ record { place = f.place; tok = finish } ∷ []
-  finds_end e = by_token End e
-
-  -- every token but the end moves on within the text
-  pub finds_grows : (f.token ≡ End → ⊥) → (at < f.end) × (f.end ≤ length text)
-  finds_grows n = let g = h.grows (λ e. n (end_only f.token e)) in let o = h.forth in (omega arith, g.1)
