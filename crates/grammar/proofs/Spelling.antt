@@ -15,7 +15,7 @@ use Rattle.grammar.specs.declared.words.Shape.{Shape}
 use Rattle.grammar.specs.declared.words.Word.{Word}
 use Rattle.grammar.specs.declared.words.Word.TheVariants.{Join, After, Over, Rank, Weight}
 use Rattle.grammar.specs.Words.{letters_of, word_of}
-use Rattle.grammar.specs.Expr.{Expr, cell, join, after, over, rank, weight, Args, last, next, toks_of, written_args, word_places, places_of_args, Writes, Ruled, RuledArgs, Nests, NestsArgs, shape_rule, most_rank, most_weight, most_bytes, most_deep, cell_tokens, weight_tokens, SpellingOf}
+use Rattle.grammar.specs.Expr.{Expr, cell, join, after, over, rank, weight, Args, last, next, Writes, Ruled, RuledArgs, Nests, NestsArgs, shape_rule, most_rank, most_weight, most_bytes, most_deep, cell_tokens, weight_tokens, SpellingOf}
 use Rattle.grammar.specs.Reading.{Out, ok, bad, bind, Toks, Read, read, refused, sign_of, amount_of, cell_of, sides_of, over_of, ranked_of, weighted_of, weights_of, closes, ruled, args_of, joined_of, composed_of, call_of, Room, full, room, called_of, expr_at, expr_in, expr_of, is_finish, end_of, parse, ReadsSpellings}
 use Rattle.grammar.proofs.WordLetters.{word_letters, letters_word}
 use Rattle.grammar.proofs.Fronts.{Front, front_append, front_split, front_length, plain, called, marked, marked_args, writes_front, front_writes}

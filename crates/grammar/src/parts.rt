@@ -43,9 +43,9 @@ impl Reader<'_> {
     {
         let mut ahead = self.fork();
         ahead.sign(Sign::OpenRound)?;
-        let height = ahead.amount(1, Size::TALLEST as u16)?;
+        let height = ahead.amount(1, u16::from(Size::TALLEST))?;
         ahead.sign(Sign::Comma)?;
-        let width = ahead.amount(1, Size::WIDEST as u16)?;
+        let width = ahead.amount(1, u16::from(Size::WIDEST))?;
         *self = ahead;
         Ok(size(height, width))
     }
@@ -73,7 +73,7 @@ fn cell_at(row: i16, column: i16) -> Cell
     requires column { unsigned_abs column ≤ column_reach }
     ensures { result.number ≡ number_at row column }
 {
-    Cell::new(row as i32, column as i32).unwrap()
+    Cell::new(row.into(), column.into()).unwrap()
 }
 
 // The box of sides that are in their ranges.

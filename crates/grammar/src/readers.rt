@@ -99,7 +99,7 @@ impl<'a> Reader<'a> {
             return Err(GrammarFault::NotAllowed(found.place).into());
         };
         match u16::try_from(number) {
-            Ok(number) if low <= number && number <= high => {
+            Ok(number) if (low..=high).contains(&number) => {
                 *self = ahead;
                 Ok(number)
             }

@@ -1,12 +1,10 @@
 -- Runs of digits, and what two and three of them say.
-use Rattle.std.proofs.Common.{◌≡◌, ℕ, zero, suc, ◌+◌, ◌-◌, ◌*◌, ◌<◌, ◌≤◌, Bool, true, false, cond, leb, List, [], ◌∷◌, length, get_or, take, Some, None, pos, neg_ℤ, refl, sym, ap, ◌∙◌, subst, zero-add, arith}
-use Rattle.std.specs.List.{prefix_len}
+use Rattle.std.proofs.Common.{◌≡◌, ℕ, ◌+◌, ◌-◌, ◌*◌, ◌≤◌, Bool, true, false, cond, leb, List, [], ◌∷◌, length, get_or, Some, None, pos, neg_ℤ, refl, sym, ap, ◌∙◌, zero-add, arith}
 use Rattle.std.proofs.lemmas.Option.{none-some}
 use Rattle.std.proofs.lemmas.Bool.{leb-true, ne_eqb, and_parts}
 use Rattle.letters.specs.Bytes.{digit}
-use Rattle.letters.specs.Tokens.{AllOf, number, wrong}
+use Rattle.letters.specs.Tokens.{number, wrong}
 use Rattle.letters.specs.Scanning.{is_numeral, value_of, number_of}
-use Rattle.letters.proofs.Runs.{run_all}
 
 pub digit_is : (b : ℕ) → digit b ≡ true → (48 ≤ b) × (b ≤ 57)
 digit_is b e = let h = and_parts (leb 48 b) (leb b 57) e in (leb-true 48 b h.0, leb-true b 57 h.1)

@@ -1,16 +1,14 @@
 -- The tokens from a place on: the first, and those from its end on.
-use Rattle.std.proofs.Common.{◌≡◌, ℕ, zero, suc, ◌+◌, ◌-◌, ◌<◌, ◌≤◌, min, max, List, [], ◌∷◌, length, take, drop, ℤ, Some, Ok, Err, ⊎_elim, sym, refl, ap, ◌∙◌, add_assoc, arith, length-drop, drop-drop, Bor}
+use Rattle.std.proofs.Common.{◌≡◌, ℕ, zero, suc, ◌+◌, ◌-◌, ◌<◌, ◌≤◌, min, max, List, [], ◌∷◌, length, take, drop, Some, Ok, Err, ⊎_elim, sym, refl, ap, ◌∙◌, add_assoc, arith, length-drop, drop-drop}
 use Rattle.std.specs.List.{prefix_len}
 use Rattle.std.proofs.lemmas.List.Sums.{prefix_len-le-length}
 use Rattle.std.proofs.lemmas.List.{drop_all, take_all}
 use Rattle.std.proofs.str.Laws.{order}
-use Rattle.letters.specs.declared.tokens.Sign.{Sign}
 use Rattle.letters.specs.declared.tokens.Token.{Token}
-use Rattle.letters.specs.declared.tokens.Token.TheVariants.{Word, Number, Mark, End}
 use Rattle.letters.specs.declared.tokens.Found.{Found}
 use Rattle.letters.specs.declared.faults.LettersFault.{LettersFault}
 use Rattle.letters.specs.Bytes.{blank}
-use Rattle.letters.specs.Tokens.{Tok, word, number, sign, finish, wrong, Placed}
+use Rattle.letters.specs.Tokens.{Tok, wrong, Placed}
 use Rattle.letters.specs.Scanning.{Cut, Cuts, Gives, Finds, Next, tok_of, cut_of, onward, tokens_by, tokens_at}
 use Rattle.letters.proofs.Cuts.{cut_sized, cut_within, cut_takes}
 
