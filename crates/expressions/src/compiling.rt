@@ -15,13 +15,12 @@ pub const MOST_DEEP: u8 = 16;
 /// The form of the expression that a text spells.
 /// Declined with the first fault from the left of reading the text or, where it is read whole, with the first fault of
 /// working it out.
-#[tactic(auto, unfolding(crate::specs::Working::compile))]
+#[tactic(auto, using(grammar::proofs::Spelling::reads_spellings), unfolding(crate::specs::Working::compile))]
 pub fn compile(text: &[u8]) -> Result<Form, Fault>
     ensures exact { Compiled result (compile_of text.now) }
     ensures spelling { ReadsSpellings text.now }
 {
-    let form = read(text)??;
-    Ok(form)
+    Ok(read(text)??)
 }
 
 // The form of the expression of a whole text, or the fault that was held while the text was read.

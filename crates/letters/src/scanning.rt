@@ -54,6 +54,7 @@ fn cut<'a>(bytes: &'a [u8]) -> Option<(Token<'a>, usize)>
 
 /// The token that stands next in a text from a place on, behind any blanks; at the end, `End`.
 /// Declined where the bytes there are no token.
+#[tactic(auto, using(crate::proofs::Spelling::only_spelling))]
 pub fn next_token<'a>(text: &'a [u8], at: usize) -> Result<Found<'a>, LettersFault>
     ensures next { Next result text.now at }
     ensures spelling { OnlySpelling text.now }

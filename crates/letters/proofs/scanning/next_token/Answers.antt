@@ -10,7 +10,6 @@ use Rattle.letters.specs.Bytes.{blank}
 use Rattle.letters.specs.declared.tokens.Token.{Token}
 use Rattle.letters.specs.Scanning.{Cuts, cut_of}
 use Rattle.letters.proofs.Onward.{to_end, cut_found, cut_declined, cut_fits}
-use Rattle.letters.proofs.Spelling.{only_spelling}
 use Rattle.letters.proofs.scanning.next_token.Goals as goal
 use Rattle.letters.proofs.scanning.next_token.Goals.{After-count-blanks}
 
@@ -30,9 +29,6 @@ returns-in_err-token-clause-next c =
     let n = cut_declined c.args.text.now c.args.at c.min.result c.count-blanks.result c.min.ensures _ _ (to_end c.min.result c.args.text.now) (to_end c.count-blanks.result (rest d)) (blanks_are d) e in
     search rules
 
-pub returns-in_err-token-clause-spelling : goal.returns-in_err-token-clause-spelling
-returns-in_err-token-clause-spelling c = only_spelling c.args.text.now
-
 pub overflow_add-result : goal.overflow_add-result
 overflow_add-result c =
     let d = (goal.at.overflow_add-result c).After-count-blanks in
@@ -45,6 +41,3 @@ returns-clause-next c =
     let d = (goal.at.returns-clause-next c).After-count-blanks in
     let e = subst (λ (o : Option (Token × ℕ)). Cuts o (cut_of (take (length (rest d) - c.count-blanks.result) (drop c.count-blanks.result (rest d))))) (c.ok_or.ensures.ok_part ∙ ap result_ok c.in_ok-token.was) c.cut.ensures in
     cut_found c.args.text.now c.args.at c.min.result c.count-blanks.result c.min.ensures _ _ (to_end c.min.result c.args.text.now) (to_end c.count-blanks.result (rest d)) (blanks_are d) c.in_ok-token.token c.in_ok-token.size e
-
-pub returns-clause-spelling : goal.returns-clause-spelling
-returns-clause-spelling c = only_spelling c.args.text.now
