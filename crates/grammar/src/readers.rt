@@ -32,17 +32,21 @@ impl<'a> Reader<'a> {
     pub fn new(text: &'a [u8]) -> Reader<'a>
         ensures { result ≡ tokens_at text.now 0 }
     {
-        Reader { text, at: 0 }
+        Reader::at(text, 0)
     }
 
-    // A second reader at the same place, which may go ahead; a model with a lifetime cannot be `Copy`.
-    pub(crate) fn fork(&self) -> Reader<'a>
+    /// A reader of a text from a place on, which may lie behind its end.
+    pub fn at(text: &'a [u8], place: usize) -> Reader<'a>
+        ensures { result ≡ tokens_at text.now place }
+    {
+        Reader { text, at: place }
+    }
+
+    /// A second reader at the same place, which may go ahead; a struct with a lifetime and a model cannot be `Copy`.
+    pub fn fork(&self) -> Reader<'a>
         ensures { result ≡ self.now }
     {
-        Reader {
-            text: self.text,
-            at: self.at,
-        }
+        Reader::at(self.text, self.at)
     }
 
     // Takes the next token; the end of the text stays.
