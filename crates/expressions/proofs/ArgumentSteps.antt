@@ -1,13 +1,13 @@
 -- Joining the arguments of max or min as they are worked out.
-use Rattle.std.proofs.Common.{◌≡◌, ℕ, zero, suc, ◌<◌, ◌≤◌, Bool, true, false, cond, List, length, drop, sym, refl, ap, ◌∙◌, arith}
-use Rattle.letters.specs.Scanning.{tokens_at}
+use Rattle.std.proofs.Common.{◌≡◌, ℕ, zero, suc, ◌<◌, ◌≤◌, Bool, true, false, cond, List, [], ◌∷◌, length, drop, sym, refl, ap, ◌∙◌, arith}
 use Rattle.letters.specs.declared.tokens.Sign.TheVariants.{OpenRound, Comma}
 use Rattle.grammar.specs.declared.faults.Part.{Part}
+use Rattle.grammar.specs.declared.faults.Part.TheVariants.{Grammar}
 use Rattle.grammar.specs.declared.words.Joint.{Joint}
 use Rattle.grammar.specs.Expr.{Expr, Args, last, next, join}
 use Rattle.grammar.specs.Reading.{Out, ok, bad, bind, Toks, Read, read, sign_of, closes, args_of, joined_of}
 use Rattle.expressions.specs.Working.{placed, join_of, form_of, form_of_args}
-use Rattle.expressions.proofs.Left.{tokens_left}
+use Rattle.grammar.proofs.LeafFronts.{sign_fewer}
 
 abbrev Form : Type 0
 Form = Out (List ℕ)
@@ -68,58 +68,57 @@ no_argument one j at v ts us p k place n e d =
     ap (λ (o : Out Toks). bind (bind o (λ us. bind (one us) (λ e. cond (closes e.rest) (read (last e.got) (drop 1 e.rest)) (bind (args_of n one e.rest) (λ es. read (next e.got es.got) es.rest))))) (λ es. read (joined_all j at v es.got) es.rest)) e
     ∙ ap (λ (o : Out (Read Expr)). bind (bind o (λ e. cond (closes e.rest) (read (last e.got) (drop 1 e.rest)) (bind (args_of n one e.rest) (λ es. read (next e.got es.got) es.rest)))) (λ es. read (joined_all j at v es.got) es.rest)) d
 
--- arguments stand between two places, and what follows is joined from the second
-abbrev pub Joining : (Toks → Out (Read Expr)) → Joint → ℕ → List ℕ → Form → ℕ → Form → ℕ → Type 0
-Joining one j at text v from w to = (n : ℕ) → length (tokens_at text from) ≤ n
-    → (m : ℕ) × (length (tokens_at text to) ≤ m) × (further one j at n v (tokens_at text from) ≡ further one j at m w (tokens_at text to))
+-- arguments stand in front of the second tokens, and what follows is joined from there
+abbrev pub Joining : (Toks → Out (Read Expr)) → Joint → ℕ → Toks → Form → Toks → Form → Type 0
+Joining one j at ts v us w = (n : ℕ) → length ts ≤ n → (m : ℕ) × (length us ≤ m) × (further one j at n v ts ≡ further one j at m w us)
 
-pub start : (one : Toks → Out (Read Expr)) (j : Joint) (at : ℕ) (text : List ℕ) (v : Form) (from : ℕ) → Joining one j at text v from v from
-start one j at text v from n l = (n, l, refl)
+pub start : (one : Toks → Out (Read Expr)) (j : Joint) (at : ℕ) (ts : Toks) (v : Form) → Joining one j at ts v ts v
+start one j at ts v n l = (n, l, refl)
 
-module _ (one : Toks → Out (Read Expr)) (j : Joint) (at : ℕ) (text : List ℕ) (v : Form) (from : ℕ) (w : Form) (to : ℕ) (b : Joining one j at text v from w to) where
-  pub more : (mid end : ℕ) (e : Expr) (x y : Form) → sign_of Comma (tokens_at text to) ≡ ok (tokens_at text mid) → one (tokens_at text mid) ≡ read e (tokens_at text end)
-      → length (tokens_at text end) < length (tokens_at text to) → closes (tokens_at text end) ≡ false → x ≡ form_of e → y ≡ joined_with j at w x → Joining one j at text v from y end
+-- no sign stands where no token does, and there no argument is read
+none_left : (us : Toks) → length us ≤ 0 → sign_of Comma us ≡ bad Grammar 3 0
+none_left [] l = refl
+none_left (t ∷ us) l = absurd (omega arith)
+
+no_more : (one : Toks → Out (Read Expr)) (j : Joint) (at : ℕ) (w : Form) (us : Toks) → further one j at 0 w us ≡ bad Grammar 3 0
+unfolding args_of
+no_more one j at w us = refl
+
+module _ (one : Toks → Out (Read Expr)) (j : Joint) (at : ℕ) (ts : Toks) (v : Form) (us : Toks) (w : Form) (b : Joining one j at ts v us w) where
+  pub more : (mid end : Toks) (e : Expr) (x y : Form) → sign_of Comma us ≡ ok mid → one mid ≡ read e end → length end < length us → closes end ≡ false
+      → x ≡ form_of e → y ≡ joined_with j at w x → Joining one j at ts v end y
   more mid end e x y comma arg fewer c d f n l = go (b n l)
     where
-      go : (m : ℕ) × (length (tokens_at text to) ≤ m) × (further one j at n v (tokens_at text from) ≡ further one j at m w (tokens_at text to))
-          → (m : ℕ) × (length (tokens_at text end) ≤ m) × (further one j at n v (tokens_at text from) ≡ further one j at m y (tokens_at text end))
+      go : (m : ℕ) × (length us ≤ m) × (further one j at n v ts ≡ further one j at m w us) → (m : ℕ) × (length end ≤ m) × (further one j at n v ts ≡ further one j at m y end)
       go (zero, k, q) = absurd (omega arith)
       go (suc m, k, q) = (
         m,
         omega arith,
-        q ∙ goes_on one j at w e (tokens_at text to) (tokens_at text mid) (tokens_at text end) comma arg m c
-            ∙ ap (λ (u : Form). further one j at m u (tokens_at text end)) (ap (joined_with j at w) (sym d) ∙ sym f),
+        q ∙ goes_on one j at w e us mid end comma arg m c ∙ ap (λ (u : Form). further one j at m u end) (ap (joined_with j at w) (sym d) ∙ sym f),
       )
 
-  pub finished : (mid end stop : ℕ) (e : Expr) (x y : Form) → sign_of Comma (tokens_at text to) ≡ ok (tokens_at text mid) → one (tokens_at text mid) ≡ read e (tokens_at text end)
-      → closes (tokens_at text end) ≡ true → drop 1 (tokens_at text end) ≡ tokens_at text stop → x ≡ form_of e → y ≡ joined_with j at w x
-      → (n : ℕ) → length (tokens_at text from) ≤ n → further one j at n v (tokens_at text from) ≡ read y (tokens_at text stop)
-  finished mid end stop e x y comma arg c s d f n l = go (b n l)
+  pub finished : (mid end : Toks) (e : Expr) (x y : Form) → sign_of Comma us ≡ ok mid → one mid ≡ read e end → closes end ≡ true
+      → x ≡ form_of e → y ≡ joined_with j at w x → (n : ℕ) → length ts ≤ n → further one j at n v ts ≡ read y (drop 1 end)
+  finished mid end e x y comma arg c d f n l = go (b n l)
     where
-      go : (m : ℕ) × (length (tokens_at text to) ≤ m) × (further one j at n v (tokens_at text from) ≡ further one j at m w (tokens_at text to))
-          → further one j at n v (tokens_at text from) ≡ read y (tokens_at text stop)
-      go (zero, k, q) = absurd (omega (arith, tokens_left text to))
-      go (suc m, k, q) =
-          q ∙ stops one j at w e (tokens_at text to) (tokens_at text mid) (tokens_at text end) comma arg m c
-          ∙ ap (λ (u : Form). read u (drop 1 (tokens_at text end))) (ap (joined_with j at w) (sym d) ∙ sym f)
-          ∙ ap (λ (us : Toks). read y us) s
+      go : (m : ℕ) × (length us ≤ m) × (further one j at n v ts ≡ further one j at m w us) → further one j at n v ts ≡ read y (drop 1 end)
+      go (zero, k, q) = absurd (omega (arith, sign_fewer Comma us mid comma))
+      go (suc m, k, q) = q ∙ stops one j at w e us mid end comma arg m c ∙ ap (λ (u : Form). read u (drop 1 end)) (ap (joined_with j at w) (sym d) ∙ sym f)
 
-  module _ (p : Part) (k place n : ℕ) (l : length (tokens_at text from) ≤ n) where
-    pub stopped : sign_of Comma (tokens_at text to) ≡ bad p k place → further one j at n v (tokens_at text from) ≡ bad p k place
+  module _ (p : Part) (k place n : ℕ) (l : length ts ≤ n) where
+    pub stopped : sign_of Comma us ≡ bad p k place → further one j at n v ts ≡ bad p k place
     stopped e = go (b n l)
       where
-        go : (m : ℕ) × (length (tokens_at text to) ≤ m) × (further one j at n v (tokens_at text from) ≡ further one j at m w (tokens_at text to))
-            → further one j at n v (tokens_at text from) ≡ bad p k place
-        go (zero, h, q) = absurd (omega (arith, tokens_left text to))
-        go (suc m, h, q) = q ∙ no_comma one j at w (tokens_at text to) p k place m e
+        go : (m : ℕ) × (length us ≤ m) × (further one j at n v ts ≡ further one j at m w us) → further one j at n v ts ≡ bad p k place
+        go (zero, h, q) = q ∙ no_more one j at w us ∙ ap (λ (o : Out Toks). bind o (further one j at 0 w)) (sym (none_left us h) ∙ e)
+        go (suc m, h, q) = q ∙ no_comma one j at w us p k place m e
 
-    pub failed : (mid : ℕ) → sign_of Comma (tokens_at text to) ≡ ok (tokens_at text mid) → one (tokens_at text mid) ≡ bad p k place → further one j at n v (tokens_at text from) ≡ bad p k place
+    pub failed : (mid : Toks) → sign_of Comma us ≡ ok mid → one mid ≡ bad p k place → further one j at n v ts ≡ bad p k place
     failed mid comma e = go (b n l)
       where
-        go : (m : ℕ) × (length (tokens_at text to) ≤ m) × (further one j at n v (tokens_at text from) ≡ further one j at m w (tokens_at text to))
-            → further one j at n v (tokens_at text from) ≡ bad p k place
-        go (zero, h, q) = absurd (omega (arith, tokens_left text to))
-        go (suc m, h, q) = q ∙ no_argument one j at w (tokens_at text to) (tokens_at text mid) p k place m comma e
+        go : (m : ℕ) × (length us ≤ m) × (further one j at n v ts ≡ further one j at m w us) → further one j at n v ts ≡ bad p k place
+        go (zero, h, q) = absurd (omega (arith, sign_fewer Comma us mid comma))
+        go (suc m, h, q) = q ∙ no_argument one j at w us mid p k place m comma e
 
 same_read : {A : Type 0} (a b : A) (us vs : Toks) → read a us ≡ read b vs → (a ≡ b) × (us ≡ vs)
 same_read {A} a b us vs e =

@@ -1,4 +1,2 @@
-pub mod Left
 pub mod WeightSteps
 pub mod ArgumentSteps
-pub mod Compiled

@@ -1,8 +1,9 @@
 -- Reading weighed cells one by one.
 use Rattle.std.proofs.Common.{◌≡◌, ℕ, zero, suc, ◌<◌, ◌≤◌, Bool, true, false, cond, not, ◌&&◌, eqb, leb, ◌⊎◌, List, [], ◌∷◌, ◌++◌, length, drop, Some, None, Option, sym, refl, ap, ◌∙◌, subst, ap₂, inl, inr, append_assoc, arith, length-append, eq-eqb, eqb-true, le-leb, leb-true}
 use mathlib.Core.Bool.{false≢true}
+use Rattle.std.specs.Bool.{then_some}
+use Rattle.std.specs.Option.{MatchOption}
 use Rattle.std.proofs.lemmas.Bool.{and_parts}
-use Rattle.letters.specs.Scanning.{tokens_at}
 use Rattle.filters.specs.declared.weights.Weights.{Weights}
 use Rattle.filters.specs.Basic.{Weighed, most_cells, total, lacks, different, weight_rule}
 use Rattle.filters.specs.Weights.{listed, Added}
@@ -13,8 +14,7 @@ use Rattle.grammar.specs.declared.faults.Part.TheVariants.{Grammar}
 use Rattle.grammar.specs.Expr.{weight, most_weight}
 use Rattle.grammar.specs.Reading.{Out, ok, bad, bind, Toks, Read, read, closes, sign_of, amount_of, ruled, weighed_of, weights_of, weighted_of}
 use Rattle.grammar.proofs.LeafFronts.{amount_fewer, weighed_fewer}
-use Rattle.expressions.specs.Outcomes.{few, Lists}
-use Rattle.expressions.proofs.Left.{tokens_left}
+use Rattle.expressions.specs.Outcomes.{few, Lists, Extends}
 
 -- cells that were read before
 abbrev pub prefixed : List Weighed → Out (Read (List Weighed)) → Out (Read (List Weighed))
@@ -29,13 +29,12 @@ twice : (xs ys : List Weighed) (o : Out (Read (List Weighed))) → prefixed xs (
 twice xs ys (ok r) = ap (λ (zs : List Weighed). read zs r.rest) (sym (append_assoc xs ys r.got))
 twice xs ys (bad p n at) = refl
 
--- the cells xs stand between two places, and what follows is read from the second
-abbrev pub Between : List ℕ → ℕ → ℕ → List Weighed → Type 0
-Between text from at xs = (n : ℕ) → length (tokens_at text from) ≤ n
-    → (m : ℕ) × (length (tokens_at text at) ≤ m) × (weights_of n (tokens_at text from) ≡ prefixed xs (weights_of m (tokens_at text at)))
+-- the cells xs stand in front of the second tokens, and what follows is read from there
+abbrev pub Between : Toks → Toks → List Weighed → Type 0
+Between ts us xs = (n : ℕ) → length ts ≤ n → (m : ℕ) × (length us ≤ m) × (weights_of n ts ≡ prefixed xs (weights_of m us))
 
-pub start : (text : List ℕ) (at : ℕ) → Between text at at []
-start text at n l = (n, l, none (weights_of n (tokens_at text at)))
+pub start : (ts : Toks) → Between ts ts []
+start ts n l = (n, l, none (weights_of n ts))
 
 module _ (x : Weighed) (ts us : Toks) (e : weighed_of ts ≡ read x us) where
   goes_on : (n : ℕ) → closes us ≡ false → weights_of (suc n) ts ≡ prefixed (x ∷ []) (weights_of n us)
@@ -55,43 +54,36 @@ module _ (x : Weighed) (ts us : Toks) (e : weighed_of ts ≡ read x us) where
       ap (λ (o : Out (Read Weighed)). bind o (λ x. cond (closes x.rest) (read (x.got ∷ []) (drop 1 x.rest)) (bind (weights_of n x.rest) (λ xs. read (x.got ∷ xs.got) xs.rest)))) e
       ∙ ap (λ (b : Bool). cond b (read (x ∷ []) (drop 1 us)) (bind (weights_of n us) (λ xs. read (x ∷ xs.got) xs.rest))) c
 
-module _ (text : List ℕ) (from at end : ℕ) (xs : List Weighed) (x : Weighed) (e : weighed_of (tokens_at text at) ≡ read x (tokens_at text end)) (b : Between text from at xs) where
-  pub more : closes (tokens_at text end) ≡ false → Between text from end (xs ++ x ∷ [])
+module _ (ts us end : Toks) (xs : List Weighed) (x : Weighed) (e : weighed_of us ≡ read x end) (b : Between ts us xs) where
+  pub more : closes end ≡ false → Between ts end (xs ++ x ∷ [])
   more c n l = go (b n l)
     where
-      go : (m : ℕ) × (length (tokens_at text at) ≤ m) × (weights_of n (tokens_at text from) ≡ prefixed xs (weights_of m (tokens_at text at)))
-          → (m : ℕ) × (length (tokens_at text end) ≤ m) × (weights_of n (tokens_at text from) ≡ prefixed (xs ++ x ∷ []) (weights_of m (tokens_at text end)))
-      go (zero, k, q) = absurd (omega (arith, weighed_fewer x (tokens_at text at) (tokens_at text end) e))
-      go (suc m, k, q) = (
-        m,
-        omega (arith, weighed_fewer x (tokens_at text at) (tokens_at text end) e),
-        q ∙ ap (prefixed xs) (goes_on x (tokens_at text at) (tokens_at text end) e m c) ∙ twice xs (x ∷ []) (weights_of m (tokens_at text end)),
-      )
+      go : (m : ℕ) × (length us ≤ m) × (weights_of n ts ≡ prefixed xs (weights_of m us)) → (m : ℕ) × (length end ≤ m) × (weights_of n ts ≡ prefixed (xs ++ x ∷ []) (weights_of m end))
+      go (zero, k, q) = absurd (omega (arith, weighed_fewer x us end e))
+      go (suc m, k, q) = (m, omega (arith, weighed_fewer x us end e), q ∙ ap (prefixed xs) (goes_on x us end e m c) ∙ twice xs (x ∷ []) (weights_of m end))
 
-  pub finished : (stop : ℕ) → closes (tokens_at text end) ≡ true → drop 1 (tokens_at text end) ≡ tokens_at text stop
-      → (n : ℕ) → length (tokens_at text from) ≤ n → weights_of n (tokens_at text from) ≡ read (xs ++ x ∷ []) (tokens_at text stop)
-  finished stop c d n l = go (b n l)
+  pub finished : closes end ≡ true → (n : ℕ) → length ts ≤ n → weights_of n ts ≡ read (xs ++ x ∷ []) (drop 1 end)
+  finished c n l = go (b n l)
     where
-      go : (m : ℕ) × (length (tokens_at text at) ≤ m) × (weights_of n (tokens_at text from) ≡ prefixed xs (weights_of m (tokens_at text at)))
-          → weights_of n (tokens_at text from) ≡ read (xs ++ x ∷ []) (tokens_at text stop)
-      go (zero, k, q) = absurd (omega (arith, weighed_fewer x (tokens_at text at) (tokens_at text end) e))
-      go (suc m, k, q) = q ∙ ap (prefixed xs) (stops x (tokens_at text at) (tokens_at text end) e m c) ∙ ap (λ (ts : Toks). read (xs ++ x ∷ []) ts) d
+      go : (m : ℕ) × (length us ≤ m) × (weights_of n ts ≡ prefixed xs (weights_of m us)) → weights_of n ts ≡ read (xs ++ x ∷ []) (drop 1 end)
+      go (zero, k, q) = absurd (omega (arith, weighed_fewer x us end e))
+      go (suc m, k, q) = q ∙ ap (prefixed xs) (stops x us end e m c)
 
-pub failed : (text : List ℕ) (from at : ℕ) (xs : List Weighed) (p : Part) (k place : ℕ) → Between text from at xs → weighed_of (tokens_at text at) ≡ bad p k place
-    → (n : ℕ) → length (tokens_at text from) ≤ n → weights_of n (tokens_at text from) ≡ bad p k place
+-- no cell stands where no token does, and there no more of them are read
+none_left : (us : Toks) → length us ≤ 0 → weighed_of us ≡ bad Grammar 3 0
+unfolding weighed_of
+none_left [] l = refl
+none_left (t ∷ us) l = absurd (omega arith)
+
+pub failed : (ts us : Toks) (xs : List Weighed) (p : Part) (k place : ℕ) → Between ts us xs → weighed_of us ≡ bad p k place → (n : ℕ) → length ts ≤ n → weights_of n ts ≡ bad p k place
 unfolding weights_of
-failed text from at xs p k place b e n l = go (b n l)
+failed ts us xs p k place b e n l = go (b n l)
   where
-    go : (m : ℕ) × (length (tokens_at text at) ≤ m) × (weights_of n (tokens_at text from) ≡ prefixed xs (weights_of m (tokens_at text at)))
-        → weights_of n (tokens_at text from) ≡ bad p k place
-    go (zero, h, q) = absurd (omega (arith, tokens_left text at))
+    go : (m : ℕ) × (length us ≤ m) × (weights_of n ts ≡ prefixed xs (weights_of m us)) → weights_of n ts ≡ bad p k place
+    go (zero, h, q) = q ∙ ap (λ (o : Out (Read Weighed)). bind o (λ x. weights_of 0 x.rest)) (sym (none_left us h) ∙ e)
     go (suc m, h, q) = q ∙ ap (λ (o : Out (Read Weighed)). prefixed xs (bind o (λ x. cond (closes x.rest) (read (x.got ∷ []) (drop 1 x.rest)) (bind (weights_of m x.rest) (λ xs. read (x.got ∷ xs.got) xs.rest))))) e
 
 -- ---- few and different
-
-abbrev pub Sound : Bool → Weights → List Weighed → Type 0
-Sound true w xs = listed w ≡ xs
-Sound false w xs = few xs ≡ false
 
 not_same : (a b : ℕ) → not (eqb a b) ≡ true → not (eqb b a) ≡ true
 not_same a b e = go (eqb b a) refl
@@ -126,24 +118,26 @@ refuted : (b : Bool) → (b ≡ true → ⊥) → b ≡ false
 refuted true h = absurd (h refl)
 refuted false h = refl
 
-pub sound_more : (s a : Bool) (w z : Weights) (xs : List Weighed) (x : Weighed) → Sound s w xs → Added a x.cell x.times (listed w) (listed z) → Sound (s && a) z (xs ++ x ∷ [])
-sound_more true true w z xs x h d = d.2 ∙ ap (λ (ys : List Weighed). ys ++ x ∷ []) h
-sound_more true false w z xs x h d = refuted (few (xs ++ x ∷ [])) (λ e. go (few_last xs x e) d.0)
+-- whether one more cell can be added is whether they are few and different with it
+pub extends : (a : Bool) (w z : Weights) (x : Weighed) → Added a x.cell x.times (listed w) (listed z) → Extends (then_some a z) w x
+extends true w z x d = d.2
+extends false w z x d = refuted (few (listed w ++ x ∷ [])) (λ e. go (few_last (listed w) x e) d.0)
   where
-    go : (few xs ≡ true) × (lacks x.cell xs ≡ true) × (length xs < most_cells) → (length (listed w) ≡ most_cells) ⊎ (lacks x.cell (listed w) ≡ false) → ⊥
-    go f (inl e) = omega (arith, f.2, e, ap length h)
-    go f (inr e) = false≢true (sym e ∙ ap (lacks x.cell) h ∙ f.1)
-sound_more false true w z xs x h d = refuted (few (xs ++ x ∷ [])) (λ e. false≢true (sym h ∙ (few_last xs x e).0))
-sound_more false false w z xs x h d = refuted (few (xs ++ x ∷ [])) (λ e. false≢true (sym h ∙ (few_last xs x e).0))
+    go : (few (listed w) ≡ true) × (lacks x.cell (listed w) ≡ true) × (length (listed w) < most_cells) → (length (listed w) ≡ most_cells) ⊎ (lacks x.cell (listed w) ≡ false) → ⊥
+    go f (inl e) = omega (arith, f.2, e)
+    go f (inr e) = false≢true (sym e ∙ f.1)
+
+-- once there are too many or a repeated one, there are with one more
+pub lists_more : (o r : Option Weights) (xs : List Weighed) (x : Weighed) → Lists o xs → MatchOption o (r ≡ None) (λ w. Extends r w x) → Lists r (xs ++ x ∷ [])
+lists_more (Some w) (Some z) xs x h d = d ∙ ap (λ (ys : List Weighed). ys ++ x ∷ []) h
+lists_more (Some w) None xs x h d = subst (λ (ys : List Weighed). few (ys ++ x ∷ []) ≡ false) h d
+lists_more None r xs x h d = subst (λ (o : Option Weights). Lists o (xs ++ x ∷ [])) (sym d) (refuted (few (xs ++ x ∷ [])) (λ e. false≢true (sym h ∙ (few_last xs x e).0)))
 
 -- ---- the rule of the whole list
 
 pub rule_kept : (w : Weights) (k : ℕ) → k ≤ total (listed w) → weight_rule k (listed w) ≡ true
 rule_kept w k l =
     ap₂ ◌&&◌ (ap₂ ◌&&◌ (le-leb (length (listed w)) most_cells (omega (arith, listed_length w, w.room))) w.apart) (le-leb k (total (listed w)) l)
-
-pub rule_broken : (k : ℕ) (xs : List Weighed) → few xs ≡ false → weight_rule k xs ≡ false
-rule_broken k xs e = ap (λ (b : Bool). b && leb k (total xs)) e
 
 -- ---- the whole call
 
@@ -155,9 +149,6 @@ module _ (at k : ℕ) (ts us vs : Toks) (s : sign_of OpenRound ts ≡ ok us) (a 
 
   fewer : length vs ≤ length us
   fewer = omega (arith, amount_fewer 1 most_weight k us vs a)
-
-  pub weighted_fault : (p : Part) (n place : ℕ) → ((m : ℕ) → length vs ≤ m → weights_of m vs ≡ bad p n place) → weighted_of at ts ≡ bad p n place
-  weighted_fault p n place h = begun ∙ ap (λ (o : Out (Read (List Weighed))). bind o (λ xs. ruled at (weight_rule k xs.got) (read (weight at k xs.got) xs.rest))) (h (length us) fewer)
 
   abbrev Listed : Option Weights → Toks → Type 0
   Listed w rest = (m : ℕ) → length vs ≤ m → (xs : List Weighed) × (weights_of m vs ≡ read xs rest) × Lists w xs
@@ -171,15 +162,3 @@ module _ (at k : ℕ) (ts us vs : Toks) (s : sign_of OpenRound ts ≡ ok us) (a 
   weighted_ok w rest h l =
       let (xs, e, q) = h (length us) fewer in
       ruled_by (listed w) rest true (subst (λ (ys : List Weighed). weights_of (length us) vs ≡ read ys rest) (sym q) e) (rule_kept w k l)
-
-  pub weighted_above : (w : Weights) (rest : Toks) → Listed (Some w) rest → total (listed w) < k → weighted_of at ts ≡ bad Grammar 7 at
-  weighted_above w rest h l =
-      let (xs, e, q) = h (length us) fewer in
-      ruled_by (listed w) rest false (subst (λ (ys : List Weighed). weights_of (length us) vs ≡ read ys rest) (sym q) e) (rule_above (few (listed w)) (refuted (leb k (total (listed w))) (λ e. omega (arith, leb-true k (total (listed w)) e))))
-    where
-      rule_above : (b : Bool) {d : Bool} → d ≡ false → (b && d) ≡ false
-      rule_above true e = e
-      rule_above false e = refl
-
-  pub weighted_broken : (rest : Toks) → Listed None rest → weighted_of at ts ≡ bad Grammar 7 at
-  weighted_broken rest h = let (xs, e, q) = h (length us) fewer in ruled_by xs rest false e (rule_broken k xs q)

@@ -1,9 +1,8 @@
 -- What compiling and its parts answer, against the definitions.
-use Rattle.std.specs.Prelude.{◌≡◌, ℕ, Bool, true, false, ◌&&◌, List, length, Some, None, Ok, Err, Option, Result, nat_le}
+use Rattle.std.specs.Prelude.{◌≡◌, ℕ, Bool, true, false, ◌&&◌, List, [], ◌∷◌, ◌++◌, length, Some, None, Ok, Err, Option, Result, nat_le}
 use Rattle.forms.specs.declared.form.Form.{Form}
 use Rattle.forms.specs.Faults.{fault_number}
 use Rattle.forms.specs.Parts.{terms_of}
-use Rattle.letters.specs.Scanning.{tokens_at}
 use Rattle.filters.specs.declared.weights.Weights.{Weights}
 use Rattle.filters.specs.Basic.{Weighed, most_cells, different}
 use Rattle.filters.specs.Weights.{listed}
@@ -11,7 +10,7 @@ use Rattle.grammar.specs.declared.faults.ReadFault.{ReadFault}
 use Rattle.grammar.specs.declared.faults.Part.TheVariants.{Forms}
 use Rattle.grammar.specs.declared.words.Shape.{Shape}
 use Rattle.grammar.specs.Expr.{Expr, shape_rule}
-use Rattle.grammar.specs.Reading.{Out, ok, bad, Read}
+use Rattle.grammar.specs.Reading.{Out, ok, bad, Toks, Read}
 use Rattle.grammar.specs.Outcomes.{flaw}
 use Rattle.expressions.specs.declared.faults.FormsFault.{FormsFault}
 use Rattle.expressions.specs.declared.faults.Fault.{Fault}
@@ -23,10 +22,10 @@ abbrev pub held : Result Form FormsFault → Out (List ℕ)
 held (Ok f) = ok (terms_of f)
 held (Err e) = bad Forms (fault_number e.fault) e.place
 
--- an expression was read, and its form worked out; the tokens from the answered place on are left
-abbrev pub Works : Result (Result Form FormsFault × ℕ) ReadFault → List ℕ → Out (Read Expr) → Type 0
-Works (Ok p) text o = (e : Expr) × (o ≡ ok (record { got = e; rest = tokens_at text p.1 })) × (held p.0 ≡ form_of e)
-Works (Err e) text o = o ≡ flaw e
+-- an expression was read, and its form worked out; or there is its first fault
+abbrev pub Works : Result (Result Form FormsFault) ReadFault → Toks → Out (Read Expr) → Type 0
+Works (Ok v) left o = (e : Expr) × (o ≡ ok (record { got = e; rest = left })) × (held v ≡ form_of e)
+Works (Err e) left o = o ≡ flaw e
 
 -- a filter over a box, where its rule is kept
 abbrev pub Shapes : Option (Result Form FormsFault) → Shape → ℕ → ℕ → ℕ → Type 0
@@ -42,9 +41,14 @@ abbrev pub Lists : Option Weights → List Weighed → Type 0
 Lists (Some w) xs = listed w ≡ xs
 Lists None xs = few xs ≡ false
 
-abbrev pub ReadsWeights : Result (Option Weights × ℕ) ReadFault → List ℕ → Out (Read (List Weighed)) → Type 0
-ReadsWeights (Ok p) text o = (xs : List Weighed) × (o ≡ ok (record { got = xs; rest = tokens_at text p.1 })) × Lists p.0 xs
-ReadsWeights (Err e) text o = o ≡ flaw e
+-- the same of the next of them, behind those that were read before
+abbrev pub Extends : Option Weights → Weights → Weighed → Type 0
+Extends (Some v) w x = listed v ≡ listed w ++ x ∷ []
+Extends None w x = few (listed w ++ x ∷ []) ≡ false
+
+abbrev pub ReadsWeights : Result (Option Weights) ReadFault → Toks → Out (Read (List Weighed)) → Type 0
+ReadsWeights (Ok w) left o = (xs : List Weighed) × (o ≡ ok (record { got = xs; rest = left })) × Lists w xs
+ReadsWeights (Err e) left o = o ≡ flaw e
 
 -- the expression of a whole text was read, and its form worked out
 abbrev pub ReadWhole : Result (Result Form FormsFault) ReadFault → Out Expr → Type 0

@@ -7,7 +7,7 @@ use crate::calls::expr;
 use crate::faults::Fault;
 use crate::joining::Held;
 use forms::Form;
-use grammar::{GrammarFault, MOST_BYTES, ReadFault};
+use grammar::{GrammarFault, MOST_BYTES, ReadFault, Reader};
 
 /// How deep calls may nest.
 pub const MOST_DEEP: u8 = 16;
@@ -15,23 +15,24 @@ pub const MOST_DEEP: u8 = 16;
 /// The form of the expression that a text spells.
 /// Declined with the first fault from the left of reading the text or, where it is read whole, with the first fault of
 /// working it out.
+#[tactic(auto, using(grammar::proofs::Spelling::reads_spellings), unfolding(crate::specs::Working::compile))]
 pub fn compile(text: &[u8]) -> Result<Form, Fault>
     ensures exact { Compiled result (compile_of text.now) }
     ensures spelling { ReadsSpellings text.now }
 {
-    let held = read(text)?;
-    let form = held?;
-    Ok(form)
+    Ok(read(text)??)
 }
 
 // The form of the expression of a whole text, or the fault that was held while the text was read.
+#[tactic(auto, unfolding(grammar::specs::Reading::parse))]
 fn read(text: &[u8]) -> Result<Held, ReadFault>
     ensures { ReadWhole result (parse text.now) }
 {
     if text.len() > MOST_BYTES {
-        return Err(ReadFault::Grammar(GrammarFault::TooLong));
+        return Err(GrammarFault::TooLong.into());
     }
-    let (held, end) = expr(text, 0, MOST_DEEP)?;
-    grammar::finish(text, end)?;
+    let mut reader = Reader::new(text);
+    let held = expr(&mut reader, MOST_DEEP)?;
+    reader.finish()?;
     Ok(held)
 }

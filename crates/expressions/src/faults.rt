@@ -81,10 +81,7 @@ impl fmt::Display for Fault {
         match self {
             Fault::Letters(fault) => write!(f, "{fault}"),
             Fault::Grammar(fault) => write!(f, "{fault}"),
-            Fault::Forms(fault) => {
-                let why = fault.fault;
-                write!(f, "{why}")
-            }
+            Fault::Forms(fault) => write!(f, "{}", fault.fault),
         }
     }
 }

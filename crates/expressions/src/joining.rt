@@ -17,10 +17,7 @@ pub(crate) type Held = Result<Form, FormsFault>;
 pub(crate) fn at_word(made: Result<Form, forms::Fault>, place: usize) -> Held
     ensures { held result ≡ placed place (outcome made) }
 {
-    match made {
-        Ok(form) => Ok(form),
-        Err(fault) => Err(FormsFault { fault, place }),
-    }
+    made.map_err(|fault| FormsFault { fault, place })
 }
 
 // The max or the min of two.
@@ -28,10 +25,11 @@ pub(crate) fn join(joint: Joint, place: usize, left: Held, right: Held) -> Held
     ensures { held result ≡ bind (held left) (λ f. bind (held right) (λ g. placed place (join_of joint f g))) }
 {
     let (left, right) = (left?, right?);
-    match joint {
-        Joint::Max => at_word(joins::max(&left, &right), place),
-        Joint::Min => at_word(joins::min(&left, &right), place),
-    }
+    let made = match joint {
+        Joint::Max => joins::max(&left, &right),
+        Joint::Min => joins::min(&left, &right),
+    };
+    at_word(made, place)
 }
 
 // The outer form after the inner one.

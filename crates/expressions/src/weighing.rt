@@ -1,54 +1,45 @@
 // Reading the arguments of a weighted rank.
-ghost use Rattle.std.specs.Prelude.{◌≡◌, ℕ, ◌≤◌, true, length, if◌then◌else◌, Some, None};
-ghost use Rattle.letters.specs.Scanning.{tokens_at};
+ghost use Rattle.std.specs.Prelude.{ℕ, ◌≤◌, length};
 ghost use Rattle.grammar.specs.Reading.{weights_of, weighted_of};
-ghost use Rattle.expressions.specs.Outcomes.{Works, ReadsWeights};
+ghost use Rattle.expressions.specs.Outcomes.{Works, Extends, ReadsWeights};
 
 use crate::joining::Held;
 use filters::Weights;
-use grammar::{GrammarFault, ReadFault};
+use forms::Cell;
+use grammar::{GrammarFault, ReadFault, Reader};
 use letters::Sign;
 
 // The highest rank of weighed cells.
 const MOST_WEIGHT: u16 = 891;
 
 // The arguments of a weighted rank.
-pub(crate) fn weighted(text: &[u8], at: usize, place: usize) -> Result<(Held, usize), ReadFault>
-    ensures { Works result text.now (weighted_of place (tokens_at text.now at)) }
+pub(crate) fn weighted(reader: &mut Reader<'_>, place: usize) -> Result<Held, ReadFault>
+    ensures { Works result reader.new (weighted_of place reader.old) }
 {
-    let at = grammar::sign(text, at, Sign::OpenRound)?;
-    let (k, at) = grammar::amount(text, at, 1, MOST_WEIGHT)?;
-    let (weights, at) = weights(text, at)?;
-    let Some(weights) = weights else {
-        return Err(ReadFault::Grammar(GrammarFault::BrokenRule(place)));
-    };
-    match filters::weighted(&weights, k) {
-        Some(form) => Ok((Ok(form), at)),
-        None => Err(ReadFault::Grammar(GrammarFault::BrokenRule(place))),
-    }
+    reader.sign(Sign::OpenRound)?;
+    let k = reader.amount(1, MOST_WEIGHT)?;
+    let weights = weights(reader)?.ok_or(GrammarFault::BrokenRule(place))?;
+    let form = filters::weighted(&weights, k).ok_or(GrammarFault::BrokenRule(place))?;
+    Ok(Ok(form))
 }
 
 // Weighed cells up to the closing bracket, or `None` of too many or of one that is repeated.
-fn weights(text: &[u8], at: usize) -> Result<(Option<Weights>, usize), ReadFault>
-    ensures { (n : ℕ) → length (tokens_at text.now at) ≤ n → ReadsWeights result text.now (weights_of n (tokens_at text.now at)) }
+fn weights(reader: &mut Reader<'_>) -> Result<Option<Weights>, ReadFault>
+    ensures { (n : ℕ) → length reader.old ≤ n → ReadsWeights result reader.new (weights_of n reader.old) }
 {
-    let mut all = Weights::none();
-    let mut sound = true;
-    let mut from = at;
+    let mut all = Some(Weights::none());
     loop {
-        let ((cell, times), end) = grammar::weighed(text, from)?;
-        let added = all.add(cell, times);
-        sound &= added;
-        from = end;
-        if let Some(end) = grammar::closing_bracket(text, from) {
-            return Ok((kept(all, sound), end));
+        let (cell, times) = reader.weighed()?;
+        all = all.and_then(|weights| with(weights, cell, times));
+        if reader.closing_bracket() {
+            return Ok(all);
         }
     }
 }
 
-// The weights, if they are sound.
-fn kept(all: Weights, sound: bool) -> Option<Weights>
-    ensures { result ≡ (if sound then Some all else None) }
+// The weights and one more cell, or `None` of too many or of one that is repeated.
+fn with(mut weights: Weights, cell: Cell, times: u8) -> Option<Weights>
+    ensures { Extends result weights (record { cell = cell.number; times = times }) }
 {
-    if sound { Some(all) } else { None }
+    weights.add(cell, times).then_some(weights)
 }

@@ -158,6 +158,3 @@ writes_front e ps rest w = front_of (marked e) ps rest (w.0 ∙ sym (toks_marked
 
 pub front_writes : (e : Expr) (ts rest : Toks) → Front (marked e) ts rest → (ps : List Placed) × (ts ≡ ps ++ rest) × Writes e ps
 front_writes e ts rest f = let (ps, q, t, w) = of_front (marked e) ts rest f in (ps, q, (t ∙ toks_marked e, w ∙ places_marked e))
-
-pub front_writes_args : (es : Args) (ts rest : Toks) → Front (marked_args es) ts rest → (ps : List Placed) × (ts ≡ ps ++ rest) × (toks_of ps ≡ written_args es) × (word_places ps ≡ places_of_args es)
-front_writes_args es ts rest f = let (ps, q, t, w) = of_front (marked_args es) ts rest f in (ps, q, t ∙ toks_args es, w ∙ places_args es)

@@ -15,10 +15,10 @@ use Rattle.grammar.specs.declared.words.Shape.{Shape}
 use Rattle.grammar.specs.declared.words.Word.{Word}
 use Rattle.grammar.specs.declared.words.Word.TheVariants.{Join, After, Over, Rank, Weight}
 use Rattle.grammar.specs.Words.{letters_of, word_of}
-use Rattle.grammar.specs.Expr.{Expr, cell, join, after, over, rank, weight, Args, last, next, toks_of, written_args, word_places, places_of_args, Writes, Ruled, RuledArgs, Nests, NestsArgs, shape_rule, most_rank, most_weight, most_bytes, most_deep, cell_tokens, weight_tokens, SpellingOf}
+use Rattle.grammar.specs.Expr.{Expr, cell, join, after, over, rank, weight, Args, last, next, Writes, Ruled, RuledArgs, Nests, NestsArgs, shape_rule, most_rank, most_weight, most_bytes, most_deep, cell_tokens, weight_tokens, SpellingOf}
 use Rattle.grammar.specs.Reading.{Out, ok, bad, bind, Toks, Read, read, refused, sign_of, amount_of, cell_of, sides_of, over_of, ranked_of, weighted_of, weights_of, closes, ruled, args_of, joined_of, composed_of, call_of, Room, full, room, called_of, expr_at, expr_in, expr_of, is_finish, end_of, parse, ReadsSpellings}
 use Rattle.grammar.proofs.WordLetters.{word_letters, letters_word}
-use Rattle.grammar.proofs.Fronts.{Front, front_append, front_split, front_length, plain, called, marked, marked_args, writes_front, front_writes, front_writes_args}
+use Rattle.grammar.proofs.Fronts.{Front, front_append, front_split, front_length, plain, called, marked, marked_args, writes_front, front_writes}
 use Rattle.grammar.proofs.LeafFronts.{Gives, then, if, on, on_read, read_none, same_sign, sign_gives, sign_read, Amount, amount_gives, amount_read, Celled, cell_gives, cell_read, Sided, sides_gives, sides_read, Weights, weights_gives, weights_read, closes_front, front_closes, front_goes}
 
 -- ---- what is read is such a front, within the rules
@@ -166,18 +166,6 @@ expr_gives (suc d) ts = in_gives (suc d) (room (expr_of d)) (omega arith, subst 
 
 expr_good : (d : ℕ) (ts : Toks) (e : Expr) (rest : Toks) → expr_of d ts ≡ ok (record { got = e; rest = rest }) → Good d ts (record { got = e; rest = rest })
 expr_good d ts e rest p = subst (Gives (Good d ts)) p (expr_gives d ts)
-
--- what was read is a front of the tokens that writes the expression, and the rules hold
-pub expr_front : (d : ℕ) (ts : Toks) (e : Expr) (rest : Toks) → expr_of d ts ≡ ok (record { got = e; rest = rest }) → (ps : List Placed) × (ts ≡ ps ++ rest) × Writes e ps × Ruled e × Nests e d
-expr_front d ts e rest p =
-    let (f, r, n) = expr_good d ts e rest p in
-    let (ps, q, w) = front_writes e ts rest f in (ps, q, w, r, n)
-
-pub args_front : (d n : ℕ) (ts : Toks) (es : Args) (rest : Toks) → args_of n (expr_of d) ts ≡ ok (record { got = es; rest = rest })
-    → (ps : List Placed) × (ts ≡ ps ++ rest) × (toks_of ps ≡ written_args es) × (word_places ps ≡ places_of_args es) × RuledArgs es × NestsArgs es d
-args_front d n ts es rest p =
-    let (f, r, m) = subst (Gives (GoodArgs d ts)) p (args_gives d (expr_of d) (expr_gives d) n ts) in
-    let (ps, q, t, w) = front_writes_args es ts rest f in (ps, q, t, w, r, m)
 
 marked_some : (e : Expr) → 0 < length (marked e)
 unfolding marked

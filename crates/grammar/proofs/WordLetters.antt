@@ -1,5 +1,5 @@
 -- A word is known by its letters.
-use Rattle.std.proofs.Common.{◌≡◌, ℕ, Bool, true, false, cond, List, Some, None, Option, refl, subst}
+use Rattle.std.proofs.Common.{◌≡◌, ℕ, ◌⊎◌, Bool, true, false, cond, List, length, get_or, Some, None, Option, inl, inr, sym, refl, subst}
 use Rattle.grammar.specs.declared.words.Joint.TheVariants.{Max, Min}
 use Rattle.grammar.specs.declared.words.Shape.TheVariants.{Erode, Dilate, Open, Close, Med}
 use Rattle.grammar.specs.declared.words.Word.{Word}
@@ -40,3 +40,31 @@ named w =
 
 pub letters_word : (w : List ℕ) (v : Word) → word_of w ≡ Some v → w ≡ letters_of v
 letters_word w v e = subst (Named w) e (named w)
+
+-- how the words begin, by how many letters they have
+abbrev pub Fronted : List ℕ → Type 0
+Fronted w =
+    ((length w ≡ 3) × (get_or w 0 0 ≡ 109))
+    ⊎ ((length w ≡ 4) × ((get_or w 0 0 ≡ 111) ⊎ (get_or w 0 0 ≡ 114)))
+    ⊎ ((length w ≡ 5) × ((get_or w 0 0 ≡ 97) ⊎ (get_or w 0 0 ≡ 99) ⊎ (get_or w 0 0 ≡ 101)))
+    ⊎ ((length w ≡ 6) × ((get_or w 0 0 ≡ 100) ⊎ ((get_or w 0 0 ≡ 119) × (get_or w 5 0 ≡ 116))))
+
+fronted : (v : Word) → Fronted (letters_of v)
+fronted (Join Max) = inl (refl, refl)
+fronted (Join Min) = inl (refl, refl)
+fronted After = inr (inr (inl (refl, inl refl)))
+fronted (Over Erode) = inr (inr (inl (refl, inr (inr refl))))
+fronted (Over Dilate) = inr (inr (inr (refl, inl refl)))
+fronted (Over Open) = inr (inl (refl, inl refl))
+fronted (Over Close) = inr (inr (inl (refl, inr (inl refl))))
+fronted (Over Med) = inl (refl, refl)
+fronted Rank = inr (inl (refl, inr refl))
+fronted Weight = inr (inr (inr (refl, inr (refl, refl))))
+
+-- letters that begin otherwise are no word's
+pub unspelled : (w : List ℕ) → (Fronted w → ⊥) → None ≡ word_of w
+unspelled w n = go (word_of w) refl
+  where
+    go : (o : Option Word) → word_of w ≡ o → None ≡ word_of w
+    go None e = sym e
+    go (Some v) e = absurd (n (subst Fronted (sym (letters_word w v e)) (fronted v)))

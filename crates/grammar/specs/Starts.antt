@@ -1,8 +1,7 @@
 -- How an expression begins, against its reading.
-use Rattle.std.specs.Prelude.{◌≡◌, ℕ, ◌-◌, ◌<◌, cond, List, [], ◌∷◌, Some, None, Ok, Err, Option, Result, ◌==◌}
+use Rattle.std.specs.Prelude.{◌≡◌, ℕ, ◌-◌, ◌<◌, cond, [], ◌∷◌, Some, None, Ok, Err, Option, Result, ◌==◌}
 use Rattle.letters.specs.declared.tokens.Sign.TheVariants.{OpenSquare}
 use Rattle.letters.specs.Tokens.{Tok, word, number, sign, finish, wrong}
-use Rattle.letters.specs.Scanning.{tokens_at}
 use Rattle.grammar.specs.declared.faults.ReadFault.{ReadFault}
 use Rattle.grammar.specs.declared.faults.ReadFault.TheVariants.{Grammar as ReadGrammar}
 use Rattle.grammar.specs.declared.faults.Part.TheVariants.{Letters, Grammar}
@@ -37,20 +36,20 @@ abbrev pub begin_of : ℕ → Toks → Out Begun
 begin_of d [] = bad Grammar 3 0
 begin_of d (t ∷ ts) = begin_at d t.tok t.place ts
 
-abbrev pub Begins : Result Start ReadFault → List ℕ → Out Begun → Type 0
-Begins (Ok (Cell end)) text o = o ≡ ok (at_cell (tokens_at text end))
-Begins (Ok (Call w place end)) text o = o ≡ ok (at_call w place (tokens_at text end))
-Begins (Err e) text o = o ≡ flaw e
+abbrev pub Begins : Result Start ReadFault → Toks → Out Begun → Type 0
+Begins (Ok Cell) left o = o ≡ ok (at_cell left)
+Begins (Ok (Call w place)) left o = o ≡ ok (at_call w place left)
+Begins (Err e) left o = o ≡ flaw e
 
 -- o is read as the opening says: a cell, or the call of a word whose arguments nest one less deep
-abbrev pub Continues : Result Start ReadFault → List ℕ → ℕ → Out (Read Expr) → Type 0
-Continues (Ok (Cell end)) text d o = o ≡ bind (cell_of (tokens_at text end)) (λ c. read (cell c.got) c.rest)
-Continues (Ok (Call w place end)) text d o = (0 < d) × (o ≡ call_of (expr_of (d - 1)) w place (tokens_at text end))
-Continues (Err e) text d o = o ≡ flaw e
+abbrev pub Continues : Result Start ReadFault → Toks → ℕ → Out (Read Expr) → Type 0
+Continues (Ok Cell) left d o = o ≡ bind (cell_of left) (λ c. read (cell c.got) c.rest)
+Continues (Ok (Call w place)) left d o = (0 < d) × (o ≡ call_of (expr_of (d - 1)) w place left)
+Continues (Err e) left d o = o ≡ flaw e
 
 -- a word that there is, where calls may nest deeper; else 4 for an unknown word, then 6
-abbrev pub Calls : Result Start ReadFault → Option Word → ℕ → ℕ → ℕ → Type 0
-Calls (Ok o) None d place end = ⊥
-Calls (Err e) None d place end = e ≡ ReadGrammar (UnknownWord place)
-Calls (Ok o) (Some w) d place end = (0 < d) × (o ≡ Call w place end)
-Calls (Err e) (Some w) d place end = (d ≡ 0) × (e ≡ ReadGrammar (TooDeep place))
+abbrev pub Calls : Result Start ReadFault → Option Word → ℕ → ℕ → Type 0
+Calls (Ok o) None d place = ⊥
+Calls (Err e) None d place = e ≡ ReadGrammar (UnknownWord place)
+Calls (Ok o) (Some w) d place = (0 < d) × (o ≡ Call w place)
+Calls (Err e) (Some w) d place = (d ≡ 0) × (e ≡ ReadGrammar (TooDeep place))

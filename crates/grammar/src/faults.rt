@@ -65,11 +65,11 @@ impl GrammarFault {
     {
         match self {
             GrammarFault::TooLong => MOST_BYTES,
-            GrammarFault::NotAllowed(at) => at,
-            GrammarFault::UnknownWord(at) => at,
-            GrammarFault::OutOfRange(at) => at,
-            GrammarFault::TooDeep(at) => at,
-            GrammarFault::BrokenRule(at) => at,
+            GrammarFault::NotAllowed(at)
+            | GrammarFault::UnknownWord(at)
+            | GrammarFault::OutOfRange(at)
+            | GrammarFault::TooDeep(at)
+            | GrammarFault::BrokenRule(at) => at,
         }
     }
 }

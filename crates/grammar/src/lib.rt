@@ -8,7 +8,6 @@ mod starts;
 mod words;
 
 pub use faults::{GrammarFault, MOST_BYTES, Part, ReadFault};
-pub use parts::{cell, sides, weighed};
-pub use readers::{amount, closing_bracket, finish, offset, sign};
-pub use starts::{Start, begin};
+pub use readers::Reader;
+pub use starts::Start;
 pub use words::{Joint, Shape, Word};

@@ -1,13 +1,12 @@
-// Readers of the parts of calls: cells, the sides of boxes, weighed cells.
-ghost use Rattle.std.specs.Prelude.{◌≡◌, ◌≤◌, Ok, unsigned_abs};
-ghost use Rattle.letters.specs.Scanning.{tokens_at};
+// Reading the parts of calls: cells, the sides of boxes, weighed cells.
+ghost use Rattle.std.specs.Prelude.{◌≡◌, ◌≤◌, OnErr, unsigned_abs};
 ghost use Rattle.forms.specs.Window.{number_at};
 ghost use Rattle.filters.specs.Boxes.{Sides};
 ghost use Rattle.grammar.specs.Reading.{row_reach, column_reach, cell_of, sides_of, weighed_of};
 ghost use Rattle.grammar.specs.Outcomes.{Reads};
 
 use crate::faults::ReadFault;
-use crate::readers::{amount, offset, sign};
+use crate::readers::Reader;
 use filters::Size;
 use forms::Cell;
 use letters::Sign;
@@ -20,58 +19,68 @@ const COLUMN_REACH: u16 = 3;
 // The most times that an element may be repeated.
 const MOST_TIMES: u16 = 99;
 
-/// The cell whose opening bracket stands before a place, and a place behind it.
-pub fn cell(text: &[u8], at: usize) -> Result<(Cell, usize), ReadFault>
-    ensures { Reads (λ c. c.number) result text.now (cell_of (tokens_at text.now at)) }
-{
-    let (row, at) = offset(text, at, ROW_REACH)?;
-    let at = sign(text, at, Sign::Comma)?;
-    let (column, at) = offset(text, at, COLUMN_REACH)?;
-    let at = sign(text, at, Sign::CloseSquare)?;
-    Ok((cell_at(row, column), at))
+impl Reader<'_> {
+    /// Takes the row and the column of a cell and its closing bracket; the opening one is taken already.
+    #[tactic(auto, unfolding(crate::specs::Reading::cell_of))]
+    pub fn cell(&mut self) -> Result<Cell, ReadFault>
+        ensures read { Reads (λ c. c.number) result self.new (cell_of self.old) }
+        ensures err { OnErr result (self.new ≡ self.old) }
+    {
+        let mut ahead = self.fork();
+        let row = ahead.offset(ROW_REACH)?;
+        ahead.sign(Sign::Comma)?;
+        let column = ahead.offset(COLUMN_REACH)?;
+        ahead.sign(Sign::CloseSquare)?;
+        *self = ahead;
+        Ok(cell_at(row, column))
+    }
+
+    /// Takes the opening bracket and the sides of a box.
+    #[tactic(auto, unfolding(crate::specs::Reading::sides_of))]
+    pub fn sides(&mut self) -> Result<Size, ReadFault>
+        ensures read { Reads (λ s. (s.height, s.width)) result self.new (sides_of self.old) }
+        ensures err { OnErr result (self.new ≡ self.old) }
+    {
+        let mut ahead = self.fork();
+        ahead.sign(Sign::OpenRound)?;
+        let height = ahead.amount(1, u16::from(Size::TALLEST))?;
+        ahead.sign(Sign::Comma)?;
+        let width = ahead.amount(1, u16::from(Size::WIDEST))?;
+        *self = ahead;
+        Ok(size(height, width))
+    }
+
+    /// Takes a comma, a cell and how often it counts.
+    #[tactic(auto, unfolding(crate::specs::Reading::weighed_of))]
+    pub fn weighed(&mut self) -> Result<(Cell, u8), ReadFault>
+        ensures read { Reads (λ x. record { cell = x.0.number; times = x.1 }) result self.new (weighed_of self.old) }
+        ensures err { OnErr result (self.new ≡ self.old) }
+    {
+        let mut ahead = self.fork();
+        ahead.sign(Sign::Comma)?;
+        ahead.sign(Sign::OpenSquare)?;
+        let cell = ahead.cell()?;
+        ahead.sign(Sign::Star)?;
+        let times = ahead.amount(1, MOST_TIMES)?;
+        *self = ahead;
+        Ok((cell, times as u8))
+    }
 }
 
 // The cell at a row and a column of the window.
 fn cell_at(row: i16, column: i16) -> Cell
-    requires { (unsigned_abs row ≤ row_reach) × (unsigned_abs column ≤ column_reach) }
+    requires row { unsigned_abs row ≤ row_reach }
+    requires column { unsigned_abs column ≤ column_reach }
     ensures { result.number ≡ number_at row column }
 {
-    match Cell::new(row as i32, column as i32) {
-        Some(cell) => cell,
-        None => unreachable(),
-    }
-}
-
-/// The opening bracket and the sides of a box that stand at a place, and a place behind them.
-pub fn sides(text: &[u8], at: usize) -> Result<(Size, usize), ReadFault>
-    ensures { Reads (λ s. (s.height, s.width)) result text.now (sides_of (tokens_at text.now at)) }
-{
-    let at = sign(text, at, Sign::OpenRound)?;
-    let (height, at) = amount(text, at, 1, Size::TALLEST as u16)?;
-    let at = sign(text, at, Sign::Comma)?;
-    let (width, at) = amount(text, at, 1, Size::WIDEST as u16)?;
-    Ok((size(height, width), at))
+    Cell::new(row.into(), column.into()).unwrap()
 }
 
 // The box of sides that are in their ranges.
 fn size(height: u16, width: u16) -> Size
     requires { Sides height width }
-    ensures { (result.height ≡ height) × (result.width ≡ width) }
+    ensures height { result.height ≡ height }
+    ensures width { result.width ≡ width }
 {
-    match Size::new(height as u8, width as u8) {
-        Some(size) => size,
-        None => unreachable(),
-    }
-}
-
-/// A comma, a cell and how often it counts that stand at a place, and a place behind them.
-pub fn weighed(text: &[u8], at: usize) -> Result<((Cell, u8), usize), ReadFault>
-    ensures { Reads (λ x. record { cell = x.0.number; times = x.1 }) result text.now (weighed_of (tokens_at text.now at)) }
-{
-    let at = sign(text, at, Sign::Comma)?;
-    let at = sign(text, at, Sign::OpenSquare)?;
-    let (cell, at) = cell(text, at)?;
-    let at = sign(text, at, Sign::Star)?;
-    let (times, at) = amount(text, at, 1, MOST_TIMES)?;
-    Ok(((cell, times as u8), at))
+    Size::new(height as u8, width as u8).unwrap()
 }

@@ -1,6 +1,6 @@
 // The words of the expression language.
 ghost use Rattle.std.specs.Prelude.{◌≡◌};
-ghost use Rattle.grammar.specs.Words.{same as same_letters, word_of};
+ghost use Rattle.grammar.specs.Words.{word_of};
 
 /// A word that joins two or more expressions.
 #[derive(Clone, Copy, PartialEq, Eq, Debug)]
@@ -31,38 +31,22 @@ pub enum Word {
 
 impl Word {
     /// The word that has these letters, if the language has it.
+    #[tactic(auto, unfolding(crate::specs::Words::word_of))]
     pub fn spelled(letters: &[u8]) -> Option<Word>
         ensures { result ≡ word_of letters.now }
     {
-        if same(letters, b"max") {
-            Some(Word::Join(Joint::Max))
-        } else if same(letters, b"min") {
-            Some(Word::Join(Joint::Min))
-        } else if same(letters, b"after") {
-            Some(Word::After)
-        } else if same(letters, b"erode") {
-            Some(Word::Over(Shape::Erode))
-        } else if same(letters, b"dilate") {
-            Some(Word::Over(Shape::Dilate))
-        } else if same(letters, b"open") {
-            Some(Word::Over(Shape::Open))
-        } else if same(letters, b"close") {
-            Some(Word::Over(Shape::Close))
-        } else if same(letters, b"med") {
-            Some(Word::Over(Shape::Med))
-        } else if same(letters, b"rank") {
-            Some(Word::Rank)
-        } else if same(letters, b"weight") {
-            Some(Word::Weight)
-        } else {
-            None
+        match letters {
+            b"max" => Some(Word::Join(Joint::Max)),
+            b"min" => Some(Word::Join(Joint::Min)),
+            b"after" => Some(Word::After),
+            b"erode" => Some(Word::Over(Shape::Erode)),
+            b"dilate" => Some(Word::Over(Shape::Dilate)),
+            b"open" => Some(Word::Over(Shape::Open)),
+            b"close" => Some(Word::Over(Shape::Close)),
+            b"med" => Some(Word::Over(Shape::Med)),
+            b"rank" => Some(Word::Rank),
+            b"weight" => Some(Word::Weight),
+            _ => None,
         }
     }
-}
-
-// Whether the letters are those of the word.
-fn same(letters: &[u8], word: &[u8]) -> bool
-    ensures { result ≡ same_letters letters.now word.now }
-{
-    letters == word
 }

@@ -1,14 +1,15 @@
 -- The tokens from a place on: the first, and those from its end on.
-use Rattle.std.proofs.Common.{◌≡◌, ℕ, zero, suc, ◌+◌, ◌<◌, ◌≤◌, List, [], ◌∷◌, length, drop, ℤ, Ok, Err, sym, refl, ap, ◌∙◌, add_assoc, arith, length-drop, drop-drop, Bor}
+use Rattle.std.proofs.Common.{◌≡◌, ℕ, zero, suc, ◌+◌, ◌-◌, ◌<◌, ◌≤◌, min, max, List, [], ◌∷◌, length, take, drop, Some, Ok, Err, ⊎_elim, sym, refl, ap, ◌∙◌, add_assoc, arith, length-drop, drop-drop}
 use Rattle.std.specs.List.{prefix_len}
-use Rattle.letters.specs.declared.tokens.Sign.{Sign}
+use Rattle.std.proofs.lemmas.List.Sums.{prefix_len-le-length}
+use Rattle.std.proofs.lemmas.List.{drop_all, take_all}
+use Rattle.std.proofs.str.Laws.{order}
 use Rattle.letters.specs.declared.tokens.Token.{Token}
-use Rattle.letters.specs.declared.tokens.Token.TheVariants.{Word, Number, Mark, End}
 use Rattle.letters.specs.declared.tokens.Found.{Found}
 use Rattle.letters.specs.declared.faults.LettersFault.{LettersFault}
 use Rattle.letters.specs.Bytes.{blank}
-use Rattle.letters.specs.Tokens.{Tok, word, number, sign, finish, wrong, Placed}
-use Rattle.letters.specs.Scanning.{Cut, Gives, Finds, Next, tok_of, cut_of, onward, tokens_by, tokens_at}
+use Rattle.letters.specs.Tokens.{Tok, wrong, Placed}
+use Rattle.letters.specs.Scanning.{Cut, Cuts, Gives, Finds, Next, tok_of, cut_of, onward, tokens_by, tokens_at}
 use Rattle.letters.proofs.Cuts.{cut_sized, cut_within, cut_takes}
 
 -- what follows a token is asked for only where the token takes bytes
@@ -73,33 +74,30 @@ declines text at e g =
     tokens_next text at ∙ ap (λ (t : Tok). record { place = p; tok = t } ∷ onward t (tokens_at text (p + c.size))) (sym g.0)
     ∙ ap (λ (i : ℕ). record { place = i; tok = wrong } ∷ []) (sym g.1)
 
--- there is always a token, the end at last
-pub tokens_some : (text : List ℕ) (at : ℕ) → tokens_at text at ≡ [] → ⊥
-tokens_some text at e = let n = tokens_next text at in let z : ◌≡◌ {A = ℕ} 0 1 = cc in omega arith
+-- the part from a place to the end
+pub to_end : (m : ℕ) (xs : List ℕ) → take (length xs - m) (drop m xs) ≡ drop m xs
+to_end m xs = take_all (length xs - m) (drop m xs) (omega (arith, length-drop m xs))
 
-end_only : (t : Token) → tok_of t ≡ finish → t ≡ End
-end_only (Word w) e = let z : ◌≡◌ {A = ℕ} 0 1 = cc in absurd (omega arith)
-end_only (Number z) e = let z : ◌≡◌ {A = ℕ} 0 1 = cc in absurd (omega arith)
-end_only (Mark s) e = let z : ◌≡◌ {A = ℕ} 0 1 = cc in absurd (omega arith)
-end_only End e = refl
+drop_within : (text : List ℕ) (at : ℕ) → drop (min at (length text)) text ≡ drop at text
+drop_within text at = ⊎_elim (λ l. let e : min at (length text) ≡ at = omega arith in ap (λ i. drop i text) e) (λ g. drop_all _ text (omega arith) ∙ sym (drop_all at text (omega arith))) (order at (length text))
 
--- the tokens from a place on, by the token that was found there
-module _ (text : List ℕ) (at : ℕ) (f : Found) (h : Finds text at f) where
-  by_token : (t : Token) → f.token ≡ t → tokens_at text at ≡ record { place = f.place; tok = tok_of t } ∷ onward (tok_of t) (tokens_at text f.end)
-  by_token t e = h.tokens ∙ ap (λ (u : Token). record { place = f.place; tok = tok_of u } ∷ onward (tok_of u) (tokens_at text f.end)) e
+-- what is cut behind the blanks at a place, which may be behind the end
+module _ (text : List ℕ) (at m k : ℕ) (is : m ≡ min at (length text)) (rest bs : List ℕ) (r : rest ≡ drop m text) (f : bs ≡ drop k rest) (blanks : k ≡ prefix_len blank rest) where
+  left_is : rest ≡ drop at text
+  left_is = r ∙ ap (λ i. drop i text) is ∙ drop_within text at
 
-  pub finds_word : (w : Bor (List ℕ)) → f.token ≡ Word w → tokens_at text at ≡ record { place = f.place; tok = word w.now } ∷ tokens_at text f.end
-  finds_word w e = by_token (Word w) e
+  start_is : at + k ≡ start_of text at
+  start_is = ap (λ i. at + i) (blanks ∙ ap (prefix_len blank) left_is)
 
-  pub finds_number : (z : ℤ) → f.token ≡ Number z → tokens_at text at ≡ record { place = f.place; tok = number z } ∷ tokens_at text f.end
-  finds_number z e = by_token (Number z) e
+  cut_is : cut_of bs ≡ cut_of (drop (start_of text at) text)
+  cut_is = ap cut_of f ∙ ap (λ (z : List ℕ). cut_of (drop k z)) left_is ∙ ap cut_of (drop-drop k at text) ∙ ap (λ i. cut_of (drop i text)) start_is
 
-  pub finds_mark : (s : Sign) → f.token ≡ Mark s → tokens_at text at ≡ record { place = f.place; tok = sign s } ∷ tokens_at text f.end
-  finds_mark s e = by_token (Mark s) e
+  pub cut_found : (t : Token) (n : ℕ) → Cuts (Some (t, n)) (cut_of bs) → Finds text at (record { token = t; place = at + k; end = at + k + n })
+  cut_found t n c =
+      finds text at _ (c.0 ∙ ap (λ (x : Cut). x.tok) cut_is, start_is, (let e = ap (λ (x : Cut). x.size) cut_is in omega (arith, start_is, c.1)))
 
-  pub finds_end : f.token ≡ End → tokens_at text at ≡ record { place = f.place; tok = finish } ∷ []
-  finds_end e = by_token End e
+  pub cut_declined : wrong ≡ (cut_of bs).tok → Next (Err (record { place = at + k })) text at
+  cut_declined c = declines text at _ (c ∙ ap (λ (x : Cut). x.tok) cut_is, start_is)
 
-  -- every token but the end moves on within the text
-  pub finds_grows : (f.token ≡ End → ⊥) → (at < f.end) × (f.end ≤ length text)
-  finds_grows n = let g = h.grows (λ e. n (end_only f.token e)) in let o = h.forth in (omega arith, g.1)
+  pub cut_fits : (t : Token) (n : ℕ) → Cuts (Some (t, n)) (cut_of bs) → at + k + n ≤ max at (length text)
+  cut_fits t n c = omega (arith, c.1, cut_within bs, ap length f, length-drop k rest, ap length r, length-drop m text, prefix_len-le-length blank rest)

@@ -1,7 +1,5 @@
 -- The bytes of which tokens are made.
 use Rattle.std.specs.Prelude.{ℕ, Bool, ◌&&◌, ◌==◌, nat_le}
-use Rattle.letters.specs.declared.bytes.Class.{Class}
-use Rattle.letters.specs.declared.bytes.Class.TheVariants.{Letter, Digit, Blank}
 use Rattle.letters.specs.declared.tokens.Sign.{Sign}
 use Rattle.letters.specs.declared.tokens.Sign.TheVariants.{OpenSquare, CloseSquare, OpenRound, CloseRound, Comma, Star}
 
@@ -18,11 +16,6 @@ digit b = between 48 57 b
 
 abbrev pub blank : ℕ → Bool
 blank b = b == 32
-
-abbrev pub passes : Class → ℕ → Bool
-passes Letter b = letter b
-passes Digit b = digit b
-passes Blank b = blank b
 
 abbrev pub minus : ℕ
 minus = 45

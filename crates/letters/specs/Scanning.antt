@@ -72,14 +72,19 @@ tok_of (Number z) = number z
 tok_of (Mark s) = sign s
 tok_of End = finish
 
--- what reading digits gives, against the token that they are
-abbrev pub Reads : Option ℤ → Tok → Type 0
-Reads (Some z) t = number z ≡ t
-Reads None t = wrong ≡ t
-
 -- the number of the digits with which a text begins, and its size with the bytes before them
 abbrev pub cut_of_number : Bool → ℕ → List ℕ → Cut
 cut_of_number negative before s = record { tok = number_of negative (take (prefix_len digit s) s); size = before + prefix_len digit s }
+
+-- a number that was read, and how many digits it has, against the cut of the digits
+abbrev pub ReadsNumber : Option (ℤ × ℕ) → Cut → Type 0
+ReadsNumber (Some p) c = (number p.0 ≡ c.tok) × (p.1 ≡ c.size)
+ReadsNumber None c = wrong ≡ c.tok
+
+-- a token and how many bytes it takes, against the cut of the bytes
+abbrev pub Cuts : Option (Token × ℕ) → Cut → Type 0
+Cuts (Some p) c = (tok_of p.0 ≡ c.tok) × (p.1 ≡ c.size)
+Cuts None c = wrong ≡ c.tok
 
 -- what was found at a place where no blank stands, against the cut of the bytes there
 abbrev pub Gives : Result Found LettersFault → Cut → ℕ → Type 0

@@ -1,7 +1,6 @@
 // The letters of an expression: a text as tokens, each with its place.
 #![tactic(auto)]
 
-mod bytes;
 mod faults;
 mod scanning;
 mod tokens;

@@ -1,16 +1,15 @@
 // Finding the next token of a text.
-ghost use Rattle.std.specs.Prelude.{◌≡◌, ℕ, ◌-◌, ◌^◌, ◌<◌, ◌≤◌, length, drop, if◌then◌else◌, Some, None, slice_index};
-ghost use Rattle.letters.specs.Scanning.{sign_of, value_of, is_numeral, number_of, sign_cut, cut_of_number, cut_of, Reads, Gives, Next, OnlySpelling};
+ghost use Rattle.std.specs.Prelude.{◌≡◌, ℕ, ◌<◌, ◌≤◌, length, if◌then◌else◌, Some, None, IfSome, slice_index};
+ghost use Rattle.letters.specs.Scanning.{value_of, is_numeral, cut_of_number, cut_of, ReadsNumber, Cuts, Next, OnlySpelling};
 
-use crate::bytes::{Class, is_of, run_end, sign_of};
 use crate::faults::LettersFault;
-use crate::tokens::{Found, Token};
+use crate::tokens::{Found, Sign, Token};
 
 // What digits say: one to three, a first 0 only alone, and after a minus no 0 alone.
 fn value_of(negative: bool, digits: &[u8]) -> Option<u16>
     requires { (i : ℕ) → i < length digits.now → (48 ≤ slice_index digits.now i) × (slice_index digits.now i ≤ 57) }
     ensures is { result ≡ (if is_numeral negative digits.now then Some (value_of 0 digits.now) else None) }
-    ensures small { elim result [ Some n ↦ n < 1000 | None ↦ Unit {0} ] }
+    ensures small { IfSome result (λ n. n < 1000) }
 {
     match digits {
         [d] if !(negative && *d == b'0') => Some((*d - b'0') as u16),
@@ -22,89 +21,51 @@ fn value_of(negative: bool, digits: &[u8]) -> Option<u16>
     }
 }
 
-// The number that digits say, after a minus or not.
-fn number_of(negative: bool, digits: &[u8]) -> Option<i16>
-    requires { (i : ℕ) → i < length digits.now → (48 ≤ slice_index digits.now i) × (slice_index digits.now i ≤ 57) }
-    ensures { Reads result (number_of negative digits.now) }
+// The number whose digits begin some bytes, after a minus or not, and how many digits it has.
+fn number_at(negative: bool, bytes: &[u8]) -> Option<(i16, usize)>
+    ensures { ReadsNumber result (cut_of_number negative 0 bytes.now) }
 {
-    match value_of(negative, digits) {
-        Some(n) if negative => Some(-(n as i16)),
-        Some(n) => Some(n as i16),
-        None => None,
-    }
+    let size = bytes.iter().take_while(|b| b.is_ascii_digit()).count();
+    let value = value_of(negative, &bytes[..size])? as i16;
+    Some((if negative { -value } else { value }, size))
 }
 
-// The number at `at`, whose digits begin at `first`.
-fn number_at<'a>(
-    text: &'a [u8],
-    at: usize,
-    first: usize,
-    negative: bool,
-) -> Result<Found<'a>, LettersFault>
-    requires order { at ≤ first }
-    requires within { first ≤ length text.now }
-    ensures { Gives result (cut_of_number negative (first - at) (drop first text.now)) at }
+// The token with which some bytes begin, and how many of them it takes, or `None` where there is no token.
+fn cut<'a>(bytes: &'a [u8]) -> Option<(Token<'a>, usize)>
+    ensures { Cuts result (cut_of bytes.now) }
 {
-    let end = run_end(text, first, Class::Digit);
-    match number_of(negative, &text[first..end]) {
-        Some(z) => Ok(Found {
-            token: Token::Number(z),
-            place: at,
-            end,
-        }),
-        None => Err(LettersFault { place: at }),
-    }
-}
-
-// The sign that a byte is.
-fn mark_at<'a>(b: u8, at: usize) -> Result<Found<'a>, LettersFault>
-    requires { at < 2 ^ 63 }
-    ensures { Gives result (sign_cut (sign_of b)) at }
-{
-    match sign_of(b) {
-        Some(s) => Ok(Found {
-            token: Token::Mark(s),
-            place: at,
-            end: at + 1,
-        }),
-        None => Err(LettersFault { place: at }),
-    }
-}
-
-// The token that begins at a place where no blank stands.
-fn token_at<'a>(text: &'a [u8], at: usize) -> Result<Found<'a>, LettersFault>
-    ensures { Gives result (cut_of (drop at text.now)) at }
-{
-    if text.len() <= at {
-        return Ok(Found {
-            token: Token::End,
-            place: at,
-            end: at,
-        });
-    }
-    let b = text[at];
-    if is_of(Class::Letter, b) {
-        let end = run_end(text, at, Class::Letter);
-        Ok(Found {
-            token: Token::Word(&text[at..end]),
-            place: at,
-            end,
-        })
-    } else if is_of(Class::Digit, b) {
-        number_at(text, at, at, false)
-    } else if b == b'-' {
-        number_at(text, at, at + 1, true)
+    let [first, rest @ ..] = bytes else {
+        return Some((Token::End, 0));
+    };
+    if first.is_ascii_lowercase() {
+        let size = bytes.iter().take_while(|b| b.is_ascii_lowercase()).count();
+        Some((Token::Word(&bytes[..size]), size))
+    } else if first.is_ascii_digit() {
+        let (number, size) = number_at(false, bytes)?;
+        Some((Token::Number(number), size))
+    } else if *first == b'-' {
+        let (number, size) = number_at(true, rest)?;
+        Some((Token::Number(number), 1 + size))
     } else {
-        mark_at(b, at)
+        let sign = Sign::of(*first)?;
+        Some((Token::Mark(sign), 1))
     }
 }
 
 /// The token that stands next in a text from a place on, behind any blanks; at the end, `End`.
 /// Declined where the bytes there are no token.
+#[tactic(auto, using(crate::proofs::Spelling::only_spelling))]
 pub fn next_token<'a>(text: &'a [u8], at: usize) -> Result<Found<'a>, LettersFault>
     ensures next { Next result text.now at }
     ensures spelling { OnlySpelling text.now }
 {
-    let start = run_end(text, at, Class::Blank);
-    token_at(text, start)
+    let rest = &text[at.min(text.len())..];
+    let blanks = rest.iter().take_while(|b| **b == b' ').count();
+    let place = at + blanks;
+    let (token, size) = cut(&rest[blanks..]).ok_or(LettersFault { place })?;
+    Ok(Found {
+        token,
+        place,
+        end: place + size,
+    })
 }

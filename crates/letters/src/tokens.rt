@@ -11,6 +11,26 @@ pub enum Sign {
     Star,
 }
 
+impl Sign {
+    ghost use Rattle.std.specs.Prelude.{◌≡◌};
+    ghost use Rattle.letters.specs.Scanning.{sign_of};
+
+    // The sign that a byte is.
+    pub(crate) fn of(byte: u8) -> Option<Sign>
+        ensures { result ≡ sign_of byte }
+    {
+        match byte {
+            b'[' => Some(Sign::OpenSquare),
+            b']' => Some(Sign::CloseSquare),
+            b'(' => Some(Sign::OpenRound),
+            b')' => Some(Sign::CloseRound),
+            b',' => Some(Sign::Comma),
+            b'*' => Some(Sign::Star),
+            _ => None,
+        }
+    }
+}
+
 /// A token; a word is the part of the text where it stands.
 #[derive(Clone, Copy)]
 pub enum Token<'a> {

@@ -3,6 +3,6 @@ use Rattle.grammar.specs.Expr.{rank}
 use Rattle.expressions.specs.Working.{form_of}
 use Rattle.expressions.proofs.leaves.ranked.Goals as goal
 
-pub returns-in-Some : goal.returns-in-Some
+pub returns : goal.returns
 unfolding form_of
-returns-in-Some c = (rank c.args.place c.in_ok-size.size.height c.in_ok-size.size.width c.in_ok-k.k, search rules, search rules)
+returns c = (rank c.args.place c.in_ok-size.size.height c.in_ok-size.size.width c.in_ok-k.k, search rules, search rules)

@@ -1,48 +1,52 @@
-use Rattle.std.proofs.Common.{◌≡◌, Bool, true, false, cond, ◌&&◌, List, [], ◌∷◌, ◌++◌, Some, None, Option, sym, subst}
+use Rattle.std.proofs.Common.{List, [], ◌∷◌, ◌++◌, sym, ap, ◌∙◌, rules}
 use Rattle.std.proofs.lemmas.Result.{err_from_is_err_and}
-use Rattle.letters.specs.Scanning.{tokens_at}
-use Rattle.filters.specs.declared.weights.Weights.{Weights}
 use Rattle.filters.specs.Basic.{Weighed}
+use Rattle.grammar.specs.Reading.{Toks, read}
 use Rattle.grammar.proofs.LeafFronts.{weighed_fewer}
 use Rattle.expressions.specs.Outcomes.{Lists}
-use Rattle.expressions.proofs.WeightSteps.{Sound, start, more, finished, failed, sound_more}
+use Rattle.expressions.proofs.WeightSteps.{start, more, finished, failed, lists_more}
 use Rattle.expressions.proofs.weighing.weights.Goals as goal
+use Rattle.expressions.proofs.weighing.weights.Goals.{After-and_then-all}
 
 pub loop-cell-init : goal.loop-cell-init
-loop-cell-init c = ([], c.none-all.ensures, start c.args.text.now c.args.at)
+loop-cell-init c = ([], c.none.ensures, start c.args.reader.now)
 
 pub returns-in_err-cell : goal.returns-in_err-cell
 returns-in_err-cell c n l =
     let p = err_from_is_err_and c.from_residual.result c.from_residual.ensures.1 in
     let (xs, s, b) = c.loop-cell.invariant in
-    rw (p.1, p.2) (failed c.args.text.now c.args.at c.loop-cell.from xs _ _ _ b c.in_err-cell.ensures n l)
+    rw (p.1, p.2) (failed c.args.reader.now c.loop-cell.reader xs _ _ _ b c.in_err-cell.ensures.read n l)
 
--- the weights that are answered are those that were read
-told : (s : Bool) (w : Weights) (o : Option Weights) (xs : List Weighed) → Sound s w xs → o ≡ cond s (Some w) None → Lists o xs
-told true w o xs h e = subst (λ (y : Option Weights). Lists y xs) (sym e) h
-told false w o xs h e = subst (λ (y : Option Weights). Lists y xs) (sym e) h
+-- the cell that was read
+abbrev cell : After-and_then-all → Weighed
+cell c = record { cell = c.in_ok-cell.cell.number; times = c.in_ok-cell.times }
 
-pub returns-in-Some : goal.returns-in-Some
-returns-in-Some c n l =
+-- the weights with it
+listed_more : (c : After-and_then-all) (xs : List Weighed) → Lists c.loop-cell.all xs → Lists c.and_then-all.result (xs ++ cell c ∷ [])
+listed_more c xs s = lists_more c.loop-cell.all c.and_then-all.result xs (cell c) s (search rules)
+
+pub returns-then-closing_bracket : goal.returns-then-closing_bracket
+returns-then-closing_bracket c n l =
+    let d = (goal.at.returns-then-closing_bracket c).After-and_then-all in
     let (xs, s, b) = c.loop-cell.invariant in
-    let x : Weighed = record { cell = c.in_ok-cell.cell.number; times = c.in_ok-cell.times } in
-    let h = c.in-Some.ensures in (
-      xs ++ x ∷ [],
-      finished c.args.text.now c.args.at c.loop-cell.from c.in_ok-cell.end xs x c.in_ok-cell.ensures b c.in-Some.end h.0 h.1 n l,
-      told (c.loop-cell.sound && c.add-added.result) c.add-added.new.self c.kept.result (xs ++ x ∷ [])
-          (sound_more c.loop-cell.sound c.add-added.result c.loop-cell.all c.add-added.new.self xs x s c.add-added.ensures) c.kept.ensures,
+    let h = c.if-closing_bracket.ensures in (
+      xs ++ cell d ∷ [],
+      finished c.args.reader.now c.loop-cell.reader c.weighed.new.self xs (cell d) c.in_ok-cell.ensures.read b h.0 n l
+          ∙ ap (λ (us : Toks). read (xs ++ cell d ∷ []) us) (sym h.1),
+      listed_more d xs s,
     )
 
 pub loop-cell-smaller : goal.loop-cell-smaller
 loop-cell-smaller c =
     let x : Weighed = record { cell = c.in_ok-cell.cell.number; times = c.in_ok-cell.times } in
-    weighed_fewer x (tokens_at c.args.text.now c.loop-cell.from) (tokens_at c.args.text.now c.in_ok-cell.end) c.in_ok-cell.ensures
+    rw (c.if-closing_bracket.ensures.1) (weighed_fewer x c.loop-cell.reader c.weighed.new.self c.in_ok-cell.ensures.read)
 
 pub loop-cell-preserved : goal.loop-cell-preserved
 loop-cell-preserved c =
+    let d = (goal.at.loop-cell-preserved c).After-and_then-all in
     let (xs, s, b) = c.loop-cell.invariant in
-    let x : Weighed = record { cell = c.in_ok-cell.cell.number; times = c.in_ok-cell.times } in (
-      xs ++ x ∷ [],
-      sound_more c.loop-cell.sound c.add-added.result c.loop-cell.all c.add-added.new.self xs x s c.add-added.ensures,
-      more c.args.text.now c.args.at c.loop-cell.from c.in_ok-cell.end xs x c.in_ok-cell.ensures b c.in_default.ensures,
+    let h = c.if-closing_bracket.ensures in (
+      xs ++ cell d ∷ [],
+      listed_more d xs s,
+      rw (h.1) (more c.args.reader.now c.loop-cell.reader c.weighed.new.self xs (cell d) c.in_ok-cell.ensures.read b h.0),
     )
