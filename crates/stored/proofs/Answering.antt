@@ -1,6 +1,6 @@
 -- What the tests of loading answer, and what the bytes of saving are.
-use Rattle.std.proofs.Common.{◌≡◌, ℕ, ◌+◌, ◌-◌, ◌*◌, ◌^◌, ◌<◌, ◌≤◌, true, false, cond, not, ◌||◌, eqb, ltb, List, [], ◌∷◌, ◌++◌, length, get_or, take, drop, set, Ok, Err, Result, sym, refl, ap, ◌∙◌, append_assoc, add-one, arith, w8, Fits}
-use Rattle.std.proofs.lemmas.List.{drop_more, set_at, take_at}
+use Rattle.std.proofs.Common.{◌≡◌, ℕ, ◌+◌, ◌-◌, ◌*◌, ◌^◌, ◌<◌, ◌≤◌, true, false, cond, not, ◌||◌, eqb, ltb, List, [], ◌∷◌, ◌++◌, length, get_or, take, drop, set, Ok, Err, Result, sym, refl, ap, ◌∙◌, append-nil, append_assoc, add-one, arith, w8, Fits}
+use Rattle.std.proofs.lemmas.List.{drop_all, drop_more, set_at, take_at}
 use Rattle.std.proofs.lemmas.Bool.{cond-true, cond-false, lt-ltb, le-ltb, eq-eqb, ne_eqb, or_from, or_left, or_right, not_from_true}
 use Rattle.forms.specs.declared.form.Form.{Form}
 use Rattle.forms.specs.Parts.{terms_of}
@@ -8,7 +8,7 @@ use Rattle.forms.proofs.Whole.{size_some, size_most, sets_form, ascending_form, 
 use Rattle.stored.specs.declared.faults.LoadFault.{LoadFault}
 use Rattle.stored.specs.Packing.{spelled, bit_at, packed}
 use Rattle.stored.specs.Layout.{term_start, bytes_for, stored_bit, stored, version_in, count_in, terms_in, filling_in, ascends, none_inside, Loaded, accepted, refused, checked, loaded, count_bits, version}
-use Rattle.stored.specs.Outcomes.{bytes_of, content_of, outcome, LoadedBack}
+use Rattle.stored.specs.Outcomes.{bytes_of, content_of, outcome, LoadedBack, ToldByBytes}
 use Rattle.stored.proofs.Spelling.{packed_length}
 use Rattle.stored.proofs.Undoing.{loaded_stored, stored_loaded}
 
@@ -70,10 +70,13 @@ loaded_back (Err x) bytes h e = tt
 pub form_back : (f : Form) → content_of (bytes_of (terms_of f)) ≡ accepted (terms_of f)
 form_back f = loaded_stored count_bits version (terms_of f) (omega arith) (size_some f) (size_most f) (sets_form f) (ascending_form f) (apart_form f)
 
-pub form_same : (f g : Form) → bytes_of (terms_of f) ≡ bytes_of (terms_of g) → terms_of f ≡ terms_of g
+form_same : (f g : Form) → bytes_of (terms_of f) ≡ bytes_of (terms_of g) → terms_of f ≡ terms_of g
 form_same f g e =
     let p : accepted (terms_of f) ≡ accepted (terms_of g) = sym (form_back f) ∙ ap content_of e ∙ form_back g in
     cc
+
+pub told_by_bytes : (f g : Form) → ToldByBytes (terms_of f) (terms_of g)
+told_by_bytes f g = (form_same f g, ap bytes_of)
 
 pub byte_more : (b : ℕ → ℕ) (old out : List ℕ) (i x : ℕ) → out ≡ packed b i ++ drop i old → i < length old → x ≡ spelled b (8 * i) 8
     → set out i x ≡ packed b (i + 1) ++ drop (i + 1) old
@@ -85,16 +88,13 @@ byte_more b old out i x e l q =
     ∙ sym (append_assoc (packed b i) (spelled b (8 * i) 8 ∷ []) (drop (i + 1) old))
     ∙ ap (λ (k : ℕ). packed b k ++ drop (i + 1) old) (sym (add-one i))
 
-pub bytes_whole : (f : List ℕ) → packed (stored_bit count_bits version f) (bytes_for count_bits (length f)) ≡ bytes_of f
+-- all of them are written
+pub bytes_all : (f old out : List ℕ) (i n : ℕ) → out ≡ packed (stored_bit count_bits version f) i ++ drop i old → n ≡ length (bytes_of f) → i ≡ n → length old ≤ n → out ≡ bytes_of f
 unfolding stored
-bytes_whole f = refl
-
-pub bytes_all : (f old out : List ℕ) (i n : ℕ) → out ≡ packed (stored_bit count_bits version f) i ++ drop i old → i ≡ n → n ≡ bytes_for count_bits (length f)
-    → out ≡ bytes_of f ++ drop n old
-bytes_all f old out i n e d q =
-    e ∙ ap (λ (k : ℕ). packed (stored_bit count_bits version f) k ++ drop k old) d
-    ∙ ap (λ (k : ℕ). packed (stored_bit count_bits version f) k ++ drop n old) q
-    ∙ ap (λ (y : List ℕ). y ++ drop n old) (bytes_whole f)
+bytes_all f old out i n e q d l =
+    let b : ℕ → ℕ = stored_bit count_bits version f in
+    let m : i ≡ bytes_for count_bits (length f) = d ∙ q ∙ packed_length b (bytes_for count_bits (length f)) in
+    e ∙ ap (λ (ys : List ℕ). packed b i ++ ys) (drop_all i old (omega arith)) ∙ append-nil (packed b i) ∙ ap (packed b) m
 
 pub saved_back : (f : Form) (rest out : List ℕ) (n : ℕ) → n ≡ length (bytes_of (terms_of f)) → out ≡ bytes_of (terms_of f) ++ rest → content_of (take n out) ≡ accepted (terms_of f)
 saved_back f rest out n e q = ap (λ (y : List ℕ). content_of (take n y)) q ∙ ap content_of (take_at (bytes_of (terms_of f)) rest n (sym e)) ∙ form_back f

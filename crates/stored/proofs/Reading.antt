@@ -1,11 +1,16 @@
 -- The terms that bytes hold, read in order.
-use Rattle.std.proofs.Common.{◌≡◌, ℕ, zero, suc, ◌+◌, ◌<◌, ◌≤◌, Bool, true, false, cond, not, ◌&&◌, ◌||◌, eqb, ltb, List, [], ◌∷◌, ◌++◌, length, get_or, take, drop, sym, refl, ap, ◌∙◌, subst, inl, inr, arith}
+use Rattle.std.proofs.Common.{◌≡◌, ℕ, zero, suc, ◌+◌, ◌-◌, ◌<◌, ◌≤◌, Bool, true, false, cond, not, ◌&&◌, ◌||◌, eqb, ltb, List, [], ◌∷◌, ◌++◌, length, get_or, take, drop, Ok, Err, OnOk, OnErr, Result, sym, refl, ap, ◌∙◌, subst, inl, inr, add-one, arith}
 use lib.Bits.{bit_and}
-use Rattle.std.proofs.lemmas.List.{drop_more, drop_all, take_more, take_all}
-use Rattle.std.proofs.lemmas.Bool.{and_parts, ltb-true, lt-ltb, le-ltb, cases_Bool, or_cases, not-true, eqb-true, eqb-false, cond-true, cond-false}
+use Rattle.std.specs.List.{AllAdjacentBelow, IsAllAdjacentAnswer}
+use Rattle.std.proofs.lemmas.Grind.{get_or_after_one}
+use Rattle.std.proofs.lemmas.List.{get_or-take, get_or_read, length-drop, length-take, take_more, take_all}
+use Rattle.std.proofs.lemmas.Bool.{and_from, and_parts, ltb-true, ltb-false, lt-ltb, le-ltb, cases_Bool, or_cases, not-true, eqb-true, eqb-false, cond-true, cond-false}
+use Rattle.tables.specs.declared.full.Full.{Full}
 use Rattle.forms.specs.Sets.{Sub, sub, every}
 use Rattle.forms.specs.Terms.{most_terms, In, True, Apart, Ascending}
-use Rattle.forms.specs.Entering.{made, declined, bounded, enter}
+use Rattle.forms.specs.Entering.{made, bounded, enter}
+use Rattle.forms.specs.declared.faults.Fault.{Fault}
+use Rattle.forms.specs.Parts.{told}
 use Rattle.forms.proofs.Entered.{in_at, enter_last, bounded_made}
 use Rattle.forms.proofs.Listed.{every_in}
 use Rattle.stored.specs.Layout.{ascends, none_inside, accepted, refused}
@@ -23,27 +28,37 @@ ascends_to b (t ∷ f) e = go (ltb-true b t (and_parts (ltb b t) (ascends t f) e
     go : b < t → ((u : ℕ) → In u f → t < u) × Ascending f → ((u : ℕ) → In u (t ∷ f) → b < u) × Ascending (t ∷ f)
     go l r = (above l r.0, (r.0, r.1))
 
-module _ (ts : List ℕ) (i before : ℕ) (p : ascends before (drop i ts) ≡ ascends 0 ts) where
-  module _ (l : i < length ts) (t : ℕ) (q : t ≡ get_or ts i 0) where
-    turn : (ltb before t && ascends t (drop (i + 1) ts)) ≡ ascends 0 ts
-    turn = ap (λ (u : ℕ). ltb before u && ascends u (drop (i + 1) ts)) q ∙ ap (ascends before) (sym (drop_more ts i 0 l)) ∙ p
-
-    pub ascending_more : before < t → ascends t (drop (i + 1) ts) ≡ ascends 0 ts
-    ascending_more m = ap (λ (b : Bool). b && ascends t (drop (i + 1) ts)) (sym (lt-ltb before t m)) ∙ turn
-
-    pub ascending_stop : t ≤ before → false ≡ ascends 0 ts
-    ascending_stop m = ap (λ (b : Bool). b && ascends t (drop (i + 1) ts)) (sym (le-ltb before t m)) ∙ turn
-
-  pub ascending_end : length ts ≤ i → true ≡ ascends 0 ts
-  ascending_end l = ap (ascends before) (sym (drop_all i ts l)) ∙ p
-
--- ---- entering them in order
-pub before_below : (ts : List ℕ) → Ascending ts → (i : ℕ) → i < length ts → (u : ℕ) → In u (take i ts) → u < get_or ts i 0
+before_below : (ts : List ℕ) → Ascending ts → (i : ℕ) → i < length ts → (u : ℕ) → In u (take i ts) → u < get_or ts i 0
 before_below [] a i l u m = absurd (omega arith)
 before_below (t ∷ ts) a zero l u m = absurd m
 before_below (t ∷ ts) a (suc i) l u (inl e) = subst (λ (y : ℕ). y < get_or ts i 0) (sym e) (a.0 (get_or ts i 0) (in_at ts i (omega arith)))
 before_below (t ∷ ts) a (suc i) l u (inr m) = before_below ts a.1 i (omega arith) u m
 
+ascends_by : (b : ℕ) (ts : List ℕ) → (0 < length ts → b < get_or ts 0 0) → AllAdjacentBelow (λ x y. true ≡ ltb x y) ts (length ts) → ascends b ts ≡ true
+ascends_by b [] h a = refl
+ascends_by b (t ∷ ts) h a =
+    let l : b < t = h (omega arith) in
+    let m : 0 < length ts → t < get_or ts 0 0 = λ k. ltb-true t (get_or ts 0 0) (sym (a 0 0 (omega arith))) in
+    and_from (ltb b t) (ascends t ts) (lt-ltb b t l) (ascends_by t ts m (λ k d n. rw add-one (rw add-one at (a (suc k) d (omega arith)))))
+
+falls_by : (ts : List ℕ) → Ascending ts → (k : ℕ) → k + 1 < length ts → get_or ts k 0 < get_or ts (k + 1) 0
+falls_by ts a k l =
+    let m : In (get_or (take (k + 1) ts) k 0) (take (k + 1) ts) = in_at (take (k + 1) ts) k (omega (arith, length-take (k + 1) ts)) in
+    before_below ts a (k + 1) l (get_or ts k 0) (subst (λ (y : ℕ). In y (take (k + 1) ts)) (get_or-take (k + 1) ts k 0 (omega arith)) m)
+
+-- what is answered of each two neighbours tells whether all ascend
+pub ascends_answer : (r : Bool) (ts : List ℕ) → 0 < get_or ts 0 0 → IsAllAdjacentAnswer (λ x y b. b ≡ ltb x y) ts r → r ≡ ascends 0 ts
+ascends_answer true ts p h = sym (ascends_by 0 ts (λ l. p) h)
+ascends_answer false ts p h = elim (cases_Bool (ascends 0 ts)) [
+  | inr e ↦ sym e
+  | inl e ↦ absurd (omega (arith, falls_by ts (ascends_to 0 ts e).1 h.0 h.1, ltb-false (get_or ts h.0 0) (get_or ts (h.0 + 1) 0) (sym (h.2 0))))
+]
+
+-- an empty one does not
+pub empty_falls : (ts : List ℕ) (i : ℕ) → i < length ts → get_or ts i 0 ≡ 0 → ascends 0 ts ≡ false
+empty_falls ts i l z = elim (cases_Bool (ascends 0 ts)) [ inr e ↦ e | inl e ↦ absurd (omega (arith, (ascends_to 0 ts e).0 (get_or ts i 0) (in_at ts i l))) ]
+
+-- ---- entering them in order
 pub taken_in : (ts : List ℕ) (i u : ℕ) → In u (take i ts) → In u ts
 taken_in [] zero u m = m
 taken_in [] (suc i) u m = m
@@ -81,6 +96,20 @@ module _ (ts : List ℕ) (a : Ascending ts) (i t : ℕ) (l : i < length ts) (q :
       ∙ ap (λ (y : ℕ). take i ts ++ y ∷ []) q ∙ sym (take_more ts i 0 l) in
       ap bounded e ∙ bounded_made (take (i + 1) ts) (omega (arith, lib.ListN.length-take (i + 1) ts))
 
+-- what comes behind the first
+pub tail_at : (ts : List ℕ) (i x : ℕ) → i < length (take (length ts - 1) (drop 1 ts)) → x ≡ get_or (take (length ts - 1) (drop 1 ts)) i x → (i + 1 < length ts) × (x ≡ get_or ts (i + 1) 0)
+tail_at ts i x l e =
+    let t : take (length ts - 1) (drop 1 ts) ≡ drop 1 ts = take_all (length ts - 1) (drop 1 ts) (omega (arith, length-drop 1 ts)) in
+    let a : i < length (drop 1 ts) = subst (λ (ys : List ℕ). i < length ys) t l in
+    let b : x ≡ get_or (drop 1 ts) i x = e ∙ ap (λ (ys : List ℕ). get_or ys i x) t in
+    let k : 1 + i ≡ i + 1 = omega arith in
+    (omega (arith, length-drop 1 ts), get_or_read (drop 1 ts) i x a b 0 ∙ get_or_after_one ts i 0 ∙ ap (λ (j : ℕ). get_or ts j 0) k)
+
+-- a push of one more, where there is room
+pub pushed : (r : Result (Unit {0}) Full) (n : ℕ) {A : Type 0} → OnOk r A → OnErr r (n ≡ most_terms) → n < most_terms → A
+pushed (Ok u) n a e l = a
+pushed (Err x) n a e l = absurd (omega arith)
+
 pub all_entered : (ts f : List ℕ) (i : ℕ) → f ≡ take i ts → length ts ≤ i → f ≡ ts
 all_entered ts f i e l = e ∙ take_all i ts l
 
@@ -108,8 +137,6 @@ module _ (ts f : List ℕ) (a : Ascending ts) (i t s : ℕ) (l : i < length ts) 
   turn_made : (True f s → ⊥) → i < most_terms → bounded (enter t f) ≡ made (take (i + 1) ts)
   turn_made n m = ap (λ (y : List ℕ). bounded (enter t y)) e ∙ entered_next ts a i t l q (λ h. n (truth_same h)) m
 
-  pub turn_never : (True f s → ⊥) → i < most_terms → (n : ℕ) → declined n ≡ bounded (enter t f) → ⊥
-  turn_never n m x w = let r = turn_made n m in let z : ◌≡◌ {A = ℕ} 0 1 = cc in omega arith
-
-  pub turn_more : (True f s → ⊥) → i < most_terms → (g : List ℕ) → made g ≡ bounded (enter t f) → g ≡ take (i + 1) ts
-  turn_more n m g w = let r = turn_made n m in cc
+  pub turn_more : (True f s → ⊥) → i < most_terms → (r : Result (Unit {0}) Fault) (g : List ℕ) → told r g ≡ bounded (enter t f) → g ≡ take (i + 1) ts
+  turn_more n m (Ok u) g w = let r = turn_made n m in cc
+  turn_more n m (Err x) g w = let r = turn_made n m in absurd (let z : ◌≡◌ {A = ℕ} 0 1 = cc in omega arith)

@@ -8,13 +8,13 @@ use Rattle.forms.specs.Sets.{sub, every}
 use Rattle.forms.specs.Terms.{In, Terms, Ascending, Apart}
 use Rattle.forms.proofs.Entered.{in_at}
 use Rattle.forms.proofs.Listed.{in_every}
-use Rattle.stored.specs.Packing.{field_bit, spelled, bit_at, packed}
+use Rattle.stored.specs.Packing.{IsBits, field_bit, spelled, bit_at, packed}
 use Rattle.stored.specs.Layout.{term_start, bytes_for, stored_bit, stored, version_in, count_in, term_in, terms_in, filling_in, ascends, none_inside, Loaded, accepted, refused, checked, loaded}
-use Rattle.stored.proofs.Spelling.{Bits, field_bits, spelled_bit, field_spelled, spelled_same, zero_bit, at_bits, packed_length, packed_at, packed_bit, byte_spelled}
+use Rattle.stored.proofs.Spelling.{field_bits, spelled_bit, field_spelled, spelled_same, zero_bit, at_bits, packed_length, packed_at, packed_bit, byte_spelled}
 
 -- ---- the bits of a stored form
 module _ (w v : ℕ) (f : List ℕ) where
-  pub stored_bits : Bits (stored_bit w v f)
+  pub stored_bits : IsBits (stored_bit w v f)
   stored_bits i =
       cond_both (ltb i 4) _ _ (λ (x : ℕ). x < 2) (λ _. field_bits 4 v i)
       (λ _. cond_both (ltb i (4 + w)) _ _ (λ (x : ℕ). x < 2) (λ _. field_bits w (length f - 1) (i - 4))

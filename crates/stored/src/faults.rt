@@ -47,31 +47,22 @@ impl LoadFault {
 impl fmt::Display for SaveFault {
     fn fmt<W: fmt::Write>(&self, f: &mut fmt::Formatter<W>) -> fmt::Result {
         match self {
-            SaveFault::BufferTooShort => f.write_str(
-                "the buffer is too short for the form; lend a longer one",
-            ),
+            SaveFault::BufferTooShort => {
+                f.write_str("the buffer is too short for the form; lend a longer one")
+            }
         }
     }
 }
 
 impl fmt::Display for LoadFault {
     fn fmt<W: fmt::Write>(&self, f: &mut fmt::Formatter<W>) -> fmt::Result {
-        match self {
-            LoadFault::NotVersionOne => f.write_str(
-                "not a stored form of version 1; check which file this is",
-            ),
-            LoadFault::WrongLength => f.write_str(
+        f.write_str(match self {
+            LoadFault::NotVersionOne => "not a stored form of version 1; check which file this is",
+            LoadFault::WrongLength =>
                 "too few or too many bytes for its terms; copy the file again",
-            ),
-            LoadFault::FillingNotZero => f.write_str(
-                "bits past the last term are set; save the form again",
-            ),
-            LoadFault::NotAscending => f.write_str(
-                "an empty term, or terms out of order; save the form again",
-            ),
-            LoadFault::TermInsideAnother => f.write_str(
-                "a term is inside another; save the form again",
-            ),
-        }
+            LoadFault::FillingNotZero => "bits past the last term are set; save the form again",
+            LoadFault::NotAscending => "an empty term, or terms out of order; save the form again",
+            LoadFault::TermInsideAnother => "a term is inside another; save the form again",
+        })
     }
 }

@@ -26,5 +26,5 @@ pub(crate) fn bytes_for(count: usize) -> usize
     requires { count ≤ most_terms }
     ensures { result ≡ bytes_for count_bits count }
 {
-    (term_start(count) + 7) / 8
+    term_start(count).div_ceil(8)
 }

@@ -1,11 +1,12 @@
 // Saving a form as bytes.
-ghost use Rattle.std.specs.Prelude.{◌≡◌, ℕ, ◌+◌, ◌*◌, ◌^◌, ◌<◌, ◌≤◌};
+ghost use Rattle.std.specs.Prelude.{◌≡◌, ℕ, ◌^◌, ◌<◌, ◌≤◌, length};
 ghost use Rattle.forms.specs.declared.form.Form.{Form as AnyForm};
 ghost use Rattle.forms.specs.Parts.{terms_of};
-ghost use Rattle.stored.specs.Packing.{field_bit, spelled};
-ghost use Rattle.stored.specs.Layout.{LoadsBack, stored_bit, count_bits, version};
-ghost use Rattle.stored.specs.Outcomes.{Saved, SavedBack, ToldByBytes};
+ghost use Rattle.stored.specs.Packing.{field_bit};
+ghost use Rattle.stored.specs.Layout.{LoadsBack};
+ghost use Rattle.stored.specs.Outcomes.{bytes_of, Saved, SavedBack, ToldByBytes};
 
+use crate::bits::{Bits, spelled};
 use crate::faults::SaveFault;
 use crate::layout::{COUNT_BITS, HEAD_BITS, TERM_BITS, VERSION, VERSION_BITS, bytes_for};
 use forms::Form;
@@ -18,51 +19,56 @@ pub fn save(form: &Form, out: &mut [u8]) -> Result<usize, SaveFault>
     ensures widths { (w v : ℕ) → v < 2 ^ 4 → LoadsBack w v }
     ensures told { (g : AnyForm) → ToldByBytes (terms_of form.now) (terms_of g) }
 {
-    let size = bytes_for(form.len());
+    let size = stored_len(form);
     if out.len() < size {
         return Err(SaveFault::BufferTooShort);
     }
-    for i in 0..size {
-        out[i] = byte(form, i);
+    let front = &mut out[..size];
+    for (index, byte) in front.iter_mut().enumerate() {
+        *byte = spelled(form, 8 * index, 8) as u8;
     }
     Ok(size)
 }
 
-// One byte of a stored form.
-fn byte(form: &Form, index: usize) -> u8
-    requires { index < 65536 }
-    ensures { result ≡ spelled (stored_bit count_bits version (terms_of form.now)) (8 * index) 8 }
+// How many bytes a form takes.
+fn stored_len(form: &Form) -> usize
+    ensures value { result ≡ length (bytes_of (terms_of form.now)) }
+    ensures small { result < 2 ^ 16 }
 {
-    let mut byte = 0;
-    for k in 0..8 {
-        byte = 2 * byte + bit(form, 8 * index + k);
-    }
-    byte
+    bytes_for(form.len())
 }
 
-// One bit of a stored form.
-fn bit(form: &Form, index: usize) -> u8
-    ensures value { result ≡ stored_bit count_bits version (terms_of form.now) index }
-    ensures small { result < 2 }
-{
-    if index < VERSION_BITS {
-        return field_bit(VERSION, VERSION_BITS, index);
-    }
-    if index < HEAD_BITS {
-        return field_bit(form.len() as u64 - 1, COUNT_BITS, index - VERSION_BITS);
-    }
-    let place = index - HEAD_BITS;
-    match form.term(place / TERM_BITS) {
-        Some(term) => field_bit(term.number(), TERM_BITS, place % TERM_BITS),
-        None => 0,
+// The bits of a stored form, and behind them zeros.
+impl Bits for &Form {
+    ghost use Rattle.forms.specs.Parts.{terms_of};
+    ghost use Rattle.stored.specs.Layout.{stored_bit, count_bits, version};
+    ghost use Rattle.std.proofs.Common.{arith};
+    ghost use Rattle.std.proofs.lemmas.Bool.Decides.{nat_tests};
+
+    ghost bit_of = { λ form. stored_bit count_bits version (terms_of form.now) };
+
+    ghost zero_or_one = { λ form i. Prim.grind (arith, nat_tests) };
+
+    fn bit(self, index: usize) -> u64 {
+        if index < VERSION_BITS {
+            return field_bit(VERSION, VERSION_BITS, index);
+        }
+        if index < HEAD_BITS {
+            return field_bit(self.len() as u64 - 1, COUNT_BITS, index - VERSION_BITS);
+        }
+        let place = index - HEAD_BITS;
+        self.term(place / TERM_BITS).map_or(
+            0,
+            |term| field_bit(term.number(), TERM_BITS, place % TERM_BITS),
+        )
     }
 }
 
 // Bit k, counted from the most significant, of a number in a field.
-fn field_bit(number: u64, width: usize, k: usize) -> u8
-    requires { (k < width) × (width ≤ 64) }
-    ensures value { result ≡ field_bit width number k }
-    ensures small { result < 2 }
+fn field_bit(number: u64, width: usize, k: usize) -> u64
+    requires within { k < width }
+    requires width { width ≤ 64 }
+    ensures { result ≡ field_bit width number k }
 {
-    (number >> (width - 1 - k) & 1) as u8
+    number >> (width - 1 - k) & 1
 }

@@ -1,36 +1,32 @@
-use Rattle.std.proofs.Common.{◌≡◌, ℕ, List, ◌++◌, length, drop, sym, ap, ◌∙◌, arith, rules}
+use Rattle.std.proofs.Common.{◌≡◌, ℕ, List, ◌++◌, take, drop, ap, arith, length-take}
 use Rattle.forms.specs.Parts.{terms_of}
-use Rattle.stored.specs.Layout.{stored_bit, bytes_for, count_bits, version}
+use Rattle.stored.specs.Layout.{stored_bit, count_bits, version}
 use Rattle.stored.specs.Outcomes.{bytes_of}
-use Rattle.stored.proofs.Undoing.{stored_length, loaded_stored}
-use Rattle.stored.proofs.Answering.{byte_more, bytes_all, saved_back, form_same}
+use Rattle.stored.proofs.Undoing.{loaded_stored}
+use Rattle.stored.proofs.Answering.{byte_more, bytes_all, saved_back, told_by_bytes}
 use Rattle.stored.proofs.saving.save.Goals as goal
 
--- the length that is answered
-size_is : (f : List ℕ) (n m : ℕ) → n ≡ bytes_for count_bits m → m ≡ length f → n ≡ length (bytes_of f)
-size_is f n m e d = e ∙ ap (bytes_for count_bits) d ∙ sym (stored_length count_bits version f)
+pub returns-then-out-size-clause-widths : goal.returns-then-out-size-clause-widths
+returns-then-out-size-clause-widths c = λ w v l f a b t x y. loaded_stored w v f l a b t x y
 
-pub returns-then-out-size : goal.returns-then-out-size
-returns-then-out-size c =
-    let f : List ℕ = terms_of c.args.form.now in
-    let s = size_is f c.bytes_for-size.result c.len.result c.bytes_for-size.ensures c.len.ensures.value in
-    record { exact = (omega (arith, s, c.if-out-size.true), search rules); back = tt; widths = λ w v l f a b t x y. loaded_stored w v f l a b t x y; told = λ g. (form_same c.args.form.now g, ap bytes_of) }
+pub returns-then-out-size-clause-told : goal.returns-then-out-size-clause-told
+returns-then-out-size-clause-told c = told_by_bytes c.args.form.now
 
-pub loop-i-preserved : goal.loop-i-preserved
-loop-i-preserved c =
-    byte_more (stored_bit count_bits version (terms_of c.args.form.now)) c.args.out.now c.loop-i.out c.loop-i.i c.byte.result c.loop-i.invariant
-    (omega (arith, c.if-out-size.false, c.loop-i-test.true)) c.byte.ensures
+pub loop-index-preserved : goal.loop-index-preserved
+loop-index-preserved c =
+    byte_more (stored_bit count_bits version (terms_of c.args.form.now)) (take c.stored_len-size.result c.args.out.now) c.loop-index.front c.loop-index.index c.spelled.result
+    c.loop-index.invariant c.loop-index-test.true c.spelled.ensures.value
 
 pub returns : goal.returns
 returns c =
     let f : List ℕ = terms_of c.args.form.now in
-    let n : ℕ = c.bytes_for-size.result in
-    let s : n ≡ length (bytes_of f) = size_is f n c.len.result c.bytes_for-size.ensures c.len.ensures.value in
-    let e : c.loop-i.out ≡ bytes_of f ++ drop n c.args.out.now =
-    bytes_all f c.args.out.now c.loop-i.out c.loop-i.i n c.loop-i.invariant (omega arith) (c.bytes_for-size.ensures ∙ ap (bytes_for count_bits) c.len.ensures.value) in
+    let n : ℕ = c.stored_len-size.result in
+    let e : c.loop-index.front ≡ bytes_of f =
+    bytes_all f (take n c.args.out.now) c.loop-index.front c.loop-index.index n c.loop-index.invariant c.stored_len-size.ensures.value (omega (arith, length-take n c.args.out.now)) (omega (arith, length-take n c.args.out.now)) in
+    let a : c.loop-index.front ++ drop n c.args.out.now ≡ bytes_of f ++ drop n c.args.out.now = ap (λ (y : List ℕ). y ++ drop n c.args.out.now) e in
     record {
-      exact = (s, c.if-out-size.false, e);
-      back = saved_back c.args.form.now (drop n c.args.out.now) c.loop-i.out n s e;
+      exact = (c.stored_len-size.ensures.value, c.if-out-size.false, a);
+      back = saved_back c.args.form.now (drop n c.args.out.now) (c.loop-index.front ++ drop n c.args.out.now) n c.stored_len-size.ensures.value a;
       widths = λ w v l f a b t x y. loaded_stored w v f l a b t x y;
-      told = λ g. (form_same c.args.form.now g, ap bytes_of);
+      told = told_by_bytes c.args.form.now;
     }

@@ -5,5 +5,5 @@ use Rattle.stored.specs.Layout.{stored_bit, count_bits, version}
 use Rattle.stored.proofs.saving.save.Given as goal
 
 -- the bytes so far, and behind them what was there
-abbrev pub invariant-loop-i : goal.invariant-loop-i
-invariant-loop-i l = l.out ≡ packed (stored_bit count_bits version (terms_of l.form)) l.i ++ drop l.i l.initial.out
+abbrev pub invariant-loop-index : goal.invariant-loop-index
+invariant-loop-index l = l.front ≡ packed (stored_bit count_bits version (terms_of l.form)) l.index ++ drop l.index l.initial.front
