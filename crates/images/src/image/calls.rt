@@ -33,6 +33,7 @@ impl Image {
         self.layout.header
     }
 
+    // The samples, which the bytes end with.
     fn raster(&self) -> Raster<'_>
         ensures header { result.header ≡ header_of self.now }
         ensures bytes { result.bytes.now ≡ raster self.now }
