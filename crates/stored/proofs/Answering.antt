@@ -1,76 +1,29 @@
 -- What the tests of loading answer, and what the bytes of saving are.
-use Rattle.std.proofs.Common.{◌≡◌, ℕ, ◌+◌, ◌-◌, ◌*◌, ◌^◌, ◌<◌, ◌≤◌, true, false, cond, not, ◌||◌, eqb, ltb, List, [], ◌∷◌, ◌++◌, length, get_or, take, drop, set, Ok, Err, Result, sym, refl, ap, ◌∙◌, append-nil, append_assoc, add-one, arith, w8, Fits}
+use Rattle.std.proofs.Common.{◌≡◌, ℕ, ◌+◌, ◌*◌, ◌^◌, ◌<◌, ◌≤◌, List, [], ◌∷◌, ◌++◌, length, get_or, take, drop, set, Ok, Err, Result, sym, ap, ◌∙◌, append-nil, append_assoc, add-one, arith, w8, Fits}
 use Rattle.std.proofs.lemmas.List.{drop_all, drop_more, set_at, take_at}
-use Rattle.std.proofs.lemmas.Bool.{cond-true, cond-false, lt-ltb, le-ltb, eq-eqb, ne_eqb, or_from, or_left, or_right, not_from_true}
 use Rattle.forms.specs.declared.form.Form.{Form}
 use Rattle.forms.specs.Parts.{terms_of}
 use Rattle.forms.proofs.Whole.{size_some, size_most, sets_form, ascending_form, apart_form}
 use Rattle.stored.specs.declared.faults.LoadFault.{LoadFault}
-use Rattle.stored.specs.Packing.{spelled, bit_at, packed}
-use Rattle.stored.specs.Layout.{term_start, bytes_for, stored_bit, stored, version_in, count_in, terms_in, filling_in, ascends, none_inside, Loaded, accepted, refused, checked, loaded, count_bits, version}
+use Rattle.stored.specs.Packing.{spelled, packed}
+use Rattle.stored.specs.Layout.{bytes_for, stored_bit, stored, accepted, count_bits, version}
 use Rattle.stored.specs.Outcomes.{bytes_of, content_of, outcome, LoadedBack, ToldByBytes}
 use Rattle.stored.proofs.Spelling.{packed_length}
-use Rattle.stored.proofs.Undoing.{loaded_stored, stored_loaded}
+use Rattle.stored.proofs.Undoing.{loaded_stored, stores_back}
 
 -- ---- loading
-module _ (w v : ℕ) (bytes : List ℕ) where
-  abbrev size_test : Loaded
-  size_test = cond (eqb (length bytes) (bytes_for w (count_in w bytes)))
-      (cond (eqb (filling_in w bytes (count_in w bytes)) 0) (checked (terms_in w bytes (count_in w bytes))) (refused 13)) (refused 12)
-
-  pub too_short : length bytes < 2 → refused 11 ≡ loaded w v bytes
-  unfolding loaded
-  too_short l = sym (cond-true (ltb (length bytes) 2 || not (eqb (version_in bytes) v)) (refused 11) size_test (or_left (ltb (length bytes) 2) (not (eqb (version_in bytes) v)) (lt-ltb (length bytes) 2 l)))
-
-  pub other_version : (version_in bytes ≡ v → ⊥) → refused 11 ≡ loaded w v bytes
-  unfolding loaded
-  other_version n = sym (cond-true (ltb (length bytes) 2 || not (eqb (version_in bytes) v)) (refused 11) size_test (or_right (ltb (length bytes) 2) (not (eqb (version_in bytes) v)) (ap not (ne_eqb (version_in bytes) v n))))
-
-  module _ (l : 2 ≤ length bytes) (e : version_in bytes ≡ v) (n : ℕ) (c : count_in w bytes ≡ n) where
-    sizes : loaded w v bytes ≡ size_test
-    unfolding loaded
-    sizes = cond-false (ltb (length bytes) 2 || not (eqb (version_in bytes) v)) (refused 11) size_test
-        (or_from (ltb (length bytes) 2) (not (eqb (version_in bytes) v)) (le-ltb (length bytes) 2 l) (not_from_true (eqb (version_in bytes) v) (eq-eqb (version_in bytes) v e)))
-
-    pub wrong_length : (length bytes ≡ bytes_for w n → ⊥) → refused 12 ≡ loaded w v bytes
-    wrong_length k = sym (sizes ∙ cond-false (eqb (length bytes) (bytes_for w (count_in w bytes))) _ (refused 12)
-        (ne_eqb (length bytes) (bytes_for w (count_in w bytes)) (λ z. k (z ∙ ap (bytes_for w) c))))
-
-    module _ (s : length bytes ≡ bytes_for w n) where
-      fillings : loaded w v bytes ≡ cond (eqb (filling_in w bytes (count_in w bytes)) 0) (checked (terms_in w bytes (count_in w bytes))) (refused 13)
-      fillings = sizes ∙ cond-true (eqb (length bytes) (bytes_for w (count_in w bytes))) _ (refused 12) (eq-eqb (length bytes) (bytes_for w (count_in w bytes)) (s ∙ ap (bytes_for w) (sym c)))
-
-      pub filled_wrong : (filling_in w bytes n ≡ 0 → ⊥) → refused 13 ≡ loaded w v bytes
-      filled_wrong k = sym (fillings ∙ cond-false (eqb (filling_in w bytes (count_in w bytes)) 0) _ (refused 13)
-          (ne_eqb (filling_in w bytes (count_in w bytes)) 0 (λ z. k (ap (filling_in w bytes) (sym c) ∙ z))))
-
-      module _ (z : filling_in w bytes n ≡ 0) where
-        terms : loaded w v bytes ≡ checked (terms_in w bytes n)
-        terms = fillings ∙ cond-true (eqb (filling_in w bytes (count_in w bytes)) 0) (checked (terms_in w bytes (count_in w bytes))) (refused 13)
-            (eq-eqb (filling_in w bytes (count_in w bytes)) 0 (ap (filling_in w bytes) c ∙ z))
-            ∙ ap (λ (k : ℕ). checked (terms_in w bytes k)) c
-
-        pub not_above : ascends 0 (terms_in w bytes n) ≡ false → refused 14 ≡ loaded w v bytes
-        not_above k = sym (terms ∙ cond-false (ascends 0 (terms_in w bytes n)) _ (refused 14) k)
-
-        pub above : ascends 0 (terms_in w bytes n) ≡ true → (o : Loaded) → o ≡ cond (none_inside (terms_in w bytes n)) (accepted (terms_in w bytes n)) (refused 15) → o ≡ loaded w v bytes
-        above k o q = q ∙ sym (terms ∙ cond-true (ascends 0 (terms_in w bytes n)) _ (refused 14) k)
-
-pub filling_read : (w : ℕ) (bytes : List ℕ) (n x end : ℕ) → x ≡ spelled (bit_at bytes) end (8 * length bytes - end) → end ≡ term_start w n → x ≡ filling_in w bytes n
-filling_read w bytes n x end e d = e ∙ ap (λ (k : ℕ). spelled (bit_at bytes) k (8 * length bytes - k)) d
-
 small : (bytes : List ℕ) → ((i : ℕ) → Fits w8 (get_or bytes i 0)) → (j : ℕ) → get_or bytes j 0 < 2 ^ 8
 small bytes h j = omega (arith, h j)
 
 pub loaded_back : (r : Result Form LoadFault) (bytes : List ℕ) → ((i : ℕ) → Fits w8 (get_or bytes i 0)) → outcome r ≡ content_of bytes → LoadedBack r bytes
-loaded_back (Ok f) bytes h e = stored_loaded count_bits version bytes (terms_of f) (small bytes h) (sym e)
+loaded_back (Ok f) bytes h e = stores_back count_bits version bytes (terms_of f) (small bytes h) (sym e)
 loaded_back (Err x) bytes h e = tt
 
 -- ---- saving
 pub form_back : (f : Form) → content_of (bytes_of (terms_of f)) ≡ accepted (terms_of f)
 form_back f = loaded_stored count_bits version (terms_of f) (omega arith) (size_some f) (size_most f) (sets_form f) (ascending_form f) (apart_form f)
 
-form_same : (f g : Form) → bytes_of (terms_of f) ≡ bytes_of (terms_of g) → terms_of f ≡ terms_of g
+pub form_same : (f g : Form) → bytes_of (terms_of f) ≡ bytes_of (terms_of g) → terms_of f ≡ terms_of g
 form_same f g e =
     let p : accepted (terms_of f) ≡ accepted (terms_of g) = sym (form_back f) ∙ ap content_of e ∙ form_back g in
     cc

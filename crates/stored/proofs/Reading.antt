@@ -1,10 +1,10 @@
 -- The terms that bytes hold, read in order.
-use Rattle.std.proofs.Common.{◌≡◌, ℕ, zero, suc, ◌+◌, ◌-◌, ◌<◌, ◌≤◌, Bool, true, false, cond, not, ◌&&◌, ◌||◌, eqb, ltb, List, [], ◌∷◌, ◌++◌, length, get_or, take, drop, Ok, Err, OnOk, OnErr, Result, sym, refl, ap, ◌∙◌, subst, inl, inr, add-one, arith}
+use Rattle.std.proofs.Common.{◌≡◌, ℕ, zero, suc, ◌+◌, ◌-◌, ◌<◌, ◌≤◌, Bool, true, false, cond, not, ◌||◌, eqb, ltb, List, [], ◌∷◌, ◌++◌, length, get_or, take, drop, Ok, Err, OnOk, OnErr, Result, sym, refl, ap, ◌∙◌, subst, inl, inr, add-one, arith}
 use lib.Bits.{bit_and}
 use Rattle.std.specs.List.{AllAdjacentBelow, IsAllAdjacentAnswer}
 use Rattle.std.proofs.lemmas.Grind.{get_or_after_one}
 use Rattle.std.proofs.lemmas.List.{get_or-take, get_or_read, length-drop, length-take, take_more, take_all}
-use Rattle.std.proofs.lemmas.Bool.{and_from, and_parts, ltb-true, ltb-false, lt-ltb, le-ltb, cases_Bool, or_cases, not-true, eqb-true, eqb-false, cond-true, cond-false}
+use Rattle.std.proofs.lemmas.Bool.{and_from, and_parts, ltb-true, ltb-false, lt-ltb, cases_Bool, or_cases, not-true, eqb-true, eqb-false}
 use Rattle.tables.specs.declared.full.Full.{Full}
 use Rattle.forms.specs.Sets.{Sub, sub, every}
 use Rattle.forms.specs.Terms.{most_terms, In, True, Apart, Ascending}
@@ -114,10 +114,10 @@ pub all_entered : (ts f : List ℕ) (i : ℕ) → f ≡ take i ts → length ts 
 all_entered ts f i e l = e ∙ take_all i ts l
 
 pub built_refused : (ts : List ℕ) → none_inside ts ≡ false → refused 15 ≡ cond (none_inside ts) (accepted ts) (refused 15)
-built_refused ts e = sym (cond-false (none_inside ts) (accepted ts) (refused 15) e)
+built_refused ts e = rw e
 
 pub built_accepted : (ts f : List ℕ) → f ≡ ts → Apart f → accepted f ≡ cond (none_inside ts) (accepted ts) (refused 15)
-built_accepted ts f e p = ap accepted e ∙ sym (cond-true (none_inside ts) (accepted ts) (refused 15) (apart_true ts (subst Apart e p)))
+built_accepted ts f e p = rw (e, apart_true ts (subst Apart e p))
 
 pub first_taken : (ts : List ℕ) → 0 < length ts → take 1 ts ≡ get_or ts 0 0 ∷ []
 first_taken [] l = absurd (omega arith)

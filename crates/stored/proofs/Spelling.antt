@@ -70,15 +70,18 @@ pub packed_length : (b : ℕ → ℕ) (n : ℕ) → length (packed b n) ≡ n
 packed_length b zero = refl
 packed_length b (suc n) = omega (arith, length_push (packed b n) (spelled b (8 * n) 8), packed_length b n)
 
+-- one more value behind n values of g
+pub push_at : (xs : List ℕ) (n : ℕ) (g : ℕ → ℕ) → length xs ≡ n → (k : ℕ) → k < suc n → (k < n → get_or xs k 0 ≡ g k) → get_or (xs ++ g n ∷ []) k 0 ≡ g k
+push_at xs n g e k l h = go (cases_order k n)
+  where
+    go : (k ≡ n) ⊎ ((k < n) ⊎ (n < k)) → get_or (xs ++ g n ∷ []) k 0 ≡ g k
+    go (inl d) = get_or_push xs (g n) 0 k (e ∙ sym d) ∙ ap g (sym d)
+    go (inr (inl m)) = get_or_append_left xs (g n ∷ []) 0 k (omega arith) ∙ h m
+    go (inr (inr m)) = absurd (omega arith)
+
 pub packed_at : (b : ℕ → ℕ) (n j : ℕ) → j < n → get_or (packed b n) j 0 ≡ spelled b (8 * j) 8
 packed_at b zero j l = absurd (omega arith)
-packed_at b (suc n) j l = go (λ m. packed_at b n j m) (cases_order j n)
-  where
-    go : (j < n → get_or (packed b n) j 0 ≡ spelled b (8 * j) 8) → (j ≡ n) ⊎ ((j < n) ⊎ (n < j))
-        → get_or (packed b n ++ spelled b (8 * n) 8 ∷ []) j 0 ≡ spelled b (8 * j) 8
-    go ih (inl e) = get_or_push (packed b n) (spelled b (8 * n) 8) 0 j (packed_length b n ∙ sym e) ∙ ap (λ (k : ℕ). spelled b (8 * k) 8) (sym e)
-    go ih (inr (inl m)) = get_or_append_left (packed b n) (spelled b (8 * n) 8 ∷ []) 0 j (omega (arith, packed_length b n)) ∙ ih m
-    go ih (inr (inr m)) = absurd (omega arith)
+packed_at b (suc n) j l = push_at (packed b n) n (λ k. spelled b (8 * k) 8) (packed_length b n) j l (packed_at b n j)
 
 pub packed_bit : (b : ℕ → ℕ) → IsBits b → (n i : ℕ) → i < 8 * n → bit_at (packed b n) i ≡ b i
 packed_bit b z n i l =

@@ -1,33 +1,31 @@
 -- Loading undoes storing, and storing undoes loading, for any width of the count field.
-use Rattle.std.proofs.Common.{◌≡◌, ℕ, zero, suc, ◌+◌, ◌-◌, ◌*◌, ◌/◌, ◌%◌, ◌^◌, ◌<◌, ◌≤◌, Bool, true, false, cond, not, ◌||◌, eqb, ltb, ◌⊎◌, List, [], ◌∷◌, ◌++◌, length, get_or, take, sym, refl, ap, ◌∙◌, ap₂, inl, inr, add-one, arith}
+use Rattle.std.proofs.Common.{◌≡◌, ℕ, zero, suc, ◌+◌, ◌-◌, ◌*◌, ◌/◌, ◌%◌, ◌^◌, ◌<◌, ◌≤◌, true, not, ◌||◌, eqb, ltb, ◌⊎◌, List, [], ◌∷◌, ◌++◌, length, get_or, take, sym, refl, ap, ◌∙◌, ap₂, inl, inr, add-one, arith}
 use lib.Bits.{bit_and}
 use Rattle.std.proofs.lemmas.Nat.{pow_pos}
-use Rattle.std.proofs.lemmas.List.{get_or_past, get_or_push, get_or_append_left, take_more, take_all, length_push, ext_get_or}
-use Rattle.std.proofs.lemmas.Bool.{cond-true, cond-false, cond_both, lt-ltb, le-ltb, eq-eqb, eqb-true, cases_order, cases_lt, cases_eq, or_from, or_left, or_right, and_from, not_from_true, ne_eqb}
+use Rattle.std.proofs.lemmas.List.{get_or_past, take_more, take_all, length_push, ext_get_or}
+use Rattle.std.proofs.lemmas.Bool.{lt-ltb, eq-eqb, cases_lt, cases_eq, or_left, or_right, and_from, ne_eqb}
+use Rattle.std.proofs.lemmas.Bool.Decides.{nat_tests}
 use Rattle.forms.specs.Sets.{sub, every}
 use Rattle.forms.specs.Terms.{In, Terms, Ascending, Apart}
 use Rattle.forms.proofs.Entered.{in_at}
 use Rattle.forms.proofs.Listed.{in_every}
 use Rattle.stored.specs.Packing.{IsBits, field_bit, spelled, bit_at, packed}
-use Rattle.stored.specs.Layout.{term_start, bytes_for, stored_bit, stored, version_in, count_in, term_in, terms_in, filling_in, ascends, none_inside, Loaded, accepted, refused, checked, loaded}
-use Rattle.stored.proofs.Spelling.{field_bits, spelled_bit, field_spelled, spelled_same, zero_bit, at_bits, packed_length, packed_at, packed_bit, byte_spelled}
+use Rattle.stored.specs.Layout.{term_start, bytes_for, stored_bit, stored, version_in, count_in, term_in, terms_in, filling_in, ascends, none_inside, accepted, checked, loaded}
+use Rattle.stored.proofs.Spelling.{push_at, spelled_bit, field_spelled, spelled_same, zero_bit, at_bits, packed_length, packed_at, packed_bit, byte_spelled}
 
 -- ---- the bits of a stored form
 module _ (w v : ℕ) (f : List ℕ) where
   pub stored_bits : IsBits (stored_bit w v f)
-  stored_bits i =
-      cond_both (ltb i 4) _ _ (λ (x : ℕ). x < 2) (λ _. field_bits 4 v i)
-      (λ _. cond_both (ltb i (4 + w)) _ _ (λ (x : ℕ). x < 2) (λ _. field_bits w (length f - 1) (i - 4))
-      (λ _. field_bits 63 (get_or f ((i - (4 + w)) / 63) 0) ((i - (4 + w)) % 63)))
+  stored_bits i = grind (arith, nat_tests)
 
   pub version_bit : (i : ℕ) → i < 4 → stored_bit w v f i ≡ field_bit 4 v i
-  version_bit i l = cond-true (ltb i 4) _ _ (lt-ltb i 4 l)
+  version_bit i l = grind (arith, nat_tests)
 
   pub count_bit : (i : ℕ) → 4 ≤ i → i < 4 + w → stored_bit w v f i ≡ field_bit w (length f - 1) (i - 4)
-  count_bit i l m = cond-false (ltb i 4) _ _ (le-ltb i 4 l) ∙ cond-true (ltb i (4 + w)) _ _ (lt-ltb i (4 + w) m)
+  count_bit i l m = grind (arith, nat_tests)
 
   pub late_bit : (i : ℕ) → 4 + w ≤ i → stored_bit w v f i ≡ field_bit 63 (get_or f ((i - (4 + w)) / 63) 0) ((i - (4 + w)) % 63)
-  late_bit i l = cond-false (ltb i 4) _ _ (le-ltb i 4 (omega arith)) ∙ cond-false (ltb i (4 + w)) _ _ (le-ltb i (4 + w) l)
+  late_bit i l = grind (arith, nat_tests)
 
   pub term_bit : (k c : ℕ) → c < 63 → stored_bit w v f (term_start w k + c) ≡ field_bit 63 (get_or f k 0) c
   term_bit k c l =
@@ -65,23 +63,13 @@ apart_true f a = in_every (λ t. every (λ u. not (sub t u) || eqb t u) f) f (λ
 
 pub checked_accepts : (f : List ℕ) → Terms f → Ascending f → Apart f → checked f ≡ accepted f
 checked_accepts f w a p =
-    cond-true (ascends 0 f) (cond (none_inside f) (accepted f) (refused 15)) (refused 14) (ascends_true 0 f (λ u m. (w u m).0) a)
-    ∙ cond-true (none_inside f) (accepted f) (refused 15) (apart_true f p)
+    let e = ascends_true 0 f (λ u m. (w u m).0) a in let d = apart_true f p in grind (arith, nat_tests)
 
-module _ (w v : ℕ) (bytes : List ℕ) where
-  abbrev last : Loaded
-  last = cond (eqb (filling_in w bytes (count_in w bytes)) 0) (checked (terms_in w bytes (count_in w bytes))) (refused 13)
-
-  -- bytes that pass the tests of the layout
-  pub loaded_checks : (n : ℕ) (f : List ℕ) → 2 ≤ length bytes → version_in bytes ≡ v → count_in w bytes ≡ n → length bytes ≡ bytes_for w n
-      → filling_in w bytes n ≡ 0 → terms_in w bytes n ≡ f → loaded w v bytes ≡ checked f
-  unfolding loaded
-  loaded_checks n f l e c s z t =
-      cond-false (ltb (length bytes) 2 || not (eqb (version_in bytes) v)) (refused 11) (cond (eqb (length bytes) (bytes_for w (count_in w bytes))) last (refused 12))
-      (or_from (ltb (length bytes) 2) (not (eqb (version_in bytes) v)) (le-ltb (length bytes) 2 l) (not_from_true (eqb (version_in bytes) v) (eq-eqb (version_in bytes) v e)))
-      ∙ cond-true (eqb (length bytes) (bytes_for w (count_in w bytes))) last (refused 12) (eq-eqb (length bytes) (bytes_for w (count_in w bytes)) (s ∙ ap (bytes_for w) (sym c)))
-      ∙ cond-true (eqb (filling_in w bytes (count_in w bytes)) 0) (checked (terms_in w bytes (count_in w bytes))) (refused 13) (eq-eqb (filling_in w bytes (count_in w bytes)) 0 (ap (filling_in w bytes) c ∙ z))
-      ∙ ap checked (ap (terms_in w bytes) c ∙ t)
+-- bytes that pass the tests of the layout
+loaded_checks : (w v : ℕ) (bytes : List ℕ) (n : ℕ) (f : List ℕ) → 2 ≤ length bytes → version_in bytes ≡ v → count_in w bytes ≡ n → length bytes ≡ bytes_for w n
+    → filling_in w bytes n ≡ 0 → terms_in w bytes n ≡ f → loaded w v bytes ≡ checked f
+unfolding loaded
+loaded_checks w v bytes n f l e c s z t = grind (arith, nat_tests)
 
 -- ---- loading undoes storing
 module _ (w v : ℕ) (f : List ℕ) (lv : v < 2 ^ 4) (some : 0 < length f) (room : length f ≤ 2 ^ w) (sets : Terms f) where
@@ -121,14 +109,6 @@ module _ (w v : ℕ) (f : List ℕ) (lv : v < 2 ^ 4) (some : 0 < length f) (room
       ∙ checked_accepts f sets a p
 
 -- ---- storing undoes loading
-checked_is : (g f : List ℕ) → checked g ≡ accepted f → g ≡ f
-checked_is g f = go (ascends 0 g) (none_inside g)
-  where
-    go : (a b : Bool) → cond a (cond b (accepted g) (refused 15)) (refused 14) ≡ accepted f → g ≡ f
-    go true true e = cc
-    go true false e = absurd (let z : ◌≡◌ {A = ℕ} 0 1 = cc in omega arith)
-    go false b e = absurd (let z : ◌≡◌ {A = ℕ} 0 1 = cc in omega arith)
-
 -- what accepted bytes passed
 pub record Passed (w v : ℕ) (bytes f : List ℕ) : Type 0 where
   pub version : version_in bytes ≡ v
@@ -138,20 +118,12 @@ pub record Passed (w v : ℕ) (bytes f : List ℕ) : Type 0 where
 
 pub accepted_passed : (w v : ℕ) (bytes f : List ℕ) → loaded w v bytes ≡ accepted f → Passed w v bytes f
 unfolding loaded
-accepted_passed w v bytes f = go (ltb (length bytes) 2) (eqb (version_in bytes) v) (eqb (length bytes) (bytes_for w (count_in w bytes))) (eqb (filling_in w bytes (count_in w bytes)) 0) refl refl refl
-  where
-    go : (a b c d : Bool) → eqb (version_in bytes) v ≡ b → eqb (length bytes) (bytes_for w (count_in w bytes)) ≡ c → eqb (filling_in w bytes (count_in w bytes)) 0 ≡ d
-        → cond (a || not b) (refused 11) (cond c (cond d (checked (terms_in w bytes (count_in w bytes))) (refused 13)) (refused 12)) ≡ accepted f → Passed w v bytes f
-    go true b c d p q r e = absurd (let z : ◌≡◌ {A = ℕ} 0 1 = cc in omega arith)
-    go false false c d p q r e = absurd (let z : ◌≡◌ {A = ℕ} 0 1 = cc in omega arith)
-    go false true false d p q r e = absurd (let z : ◌≡◌ {A = ℕ} 0 1 = cc in omega arith)
-    go false true true false p q r e = absurd (let z : ◌≡◌ {A = ℕ} 0 1 = cc in omega arith)
-    go false true true true p q r e = record {
-      version = eqb-true (version_in bytes) v p;
-      size = eqb-true (length bytes) (bytes_for w (count_in w bytes)) q;
-      filling = eqb-true (filling_in w bytes (count_in w bytes)) 0 r;
-      terms = checked_is (terms_in w bytes (count_in w bytes)) f e;
-    }
+accepted_passed w v bytes f e = record {
+  version = grind (arith, nat_tests);
+  size = grind (arith, nat_tests);
+  filling = grind (arith, nat_tests);
+  terms = grind (arith, nat_tests);
+}
 
 pub terms_length : (w : ℕ) (bytes : List ℕ) (n : ℕ) → length (terms_in w bytes n) ≡ n
 terms_length w bytes zero = refl
@@ -159,13 +131,7 @@ terms_length w bytes (suc n) = omega (arith, length_push (terms_in w bytes n) (t
 
 pub terms_at : (w : ℕ) (bytes : List ℕ) (n k : ℕ) → k < n → get_or (terms_in w bytes n) k 0 ≡ term_in w bytes k
 terms_at w bytes zero k l = absurd (omega arith)
-terms_at w bytes (suc n) k l = go (λ m. terms_at w bytes n k m) (cases_order k n)
-  where
-    go : (k < n → get_or (terms_in w bytes n) k 0 ≡ term_in w bytes k) → (k ≡ n) ⊎ ((k < n) ⊎ (n < k))
-        → get_or (terms_in w bytes n ++ term_in w bytes n ∷ []) k 0 ≡ term_in w bytes k
-    go ih (inl e) = get_or_push (terms_in w bytes n) (term_in w bytes n) 0 k (terms_length w bytes n ∙ sym e) ∙ ap (term_in w bytes) (sym e)
-    go ih (inr (inl m)) = get_or_append_left (terms_in w bytes n) (term_in w bytes n ∷ []) 0 k (omega (arith, terms_length w bytes n)) ∙ ih m
-    go ih (inr (inr m)) = absurd (omega arith)
+terms_at w bytes (suc n) k l = push_at (terms_in w bytes n) n (term_in w bytes) (terms_length w bytes n) k l (terms_at w bytes n k)
 
 module _ (w v : ℕ) (bytes f : List ℕ) (small : (j : ℕ) → get_or bytes j 0 < 2 ^ 8) (e : loaded w v bytes ≡ accepted f) where
   p : Passed w v bytes f
@@ -205,9 +171,9 @@ module _ (w v : ℕ) (bytes f : List ℕ) (small : (j : ℕ) → get_or bytes j 
   same_size : length (stored w v f) ≡ length bytes
   same_size = stored_length w v f ∙ ap (bytes_for w) same_count ∙ sym p.size
 
-  pub stored_loaded : stored w v f ≡ bytes
+  pub stores_back : stored w v f ≡ bytes
   unfolding stored
-  stored_loaded = ext_get_or 0 (packed (stored_bit w v f) (bytes_for w (length f))) bytes same_size (λ j l.
+  stores_back = ext_get_or 0 (packed (stored_bit w v f) (bytes_for w (length f))) bytes same_size (λ j l.
       let m : j < bytes_for w (length f) = omega (arith, packed_length (stored_bit w v f) (bytes_for w (length f))) in
       packed_at (stored_bit w v f) (bytes_for w (length f)) j m
       ∙ spelled_same (stored_bit w v f) (bit_at bytes) (8 * j) 8 (λ k h. same_bit (8 * j + k) (omega (arith, same_size, packed_length (stored_bit w v f) (bytes_for w (length f)))))

@@ -1,6 +1,6 @@
 -- The stored bytes of a form, for a version v whose count field has w bits:
 -- 4 bits of version, w bits of the term count less 1, 63 bits for each term, and zero bits to the end of the byte.
-use Rattle.std.specs.Prelude.{◌≡◌, ℕ, zero, suc, ◌+◌, ◌-◌, ◌*◌, ◌/◌, ◌%◌, ◌^◌, ◌<◌, ◌≤◌, Bool, true, cond, not, ◌&&◌, ◌||◌, List, [], ◌∷◌, ◌++◌, length, ◌==◌, nat_lt, slice_index}
+use Rattle.std.specs.Prelude.{◌≡◌, ℕ, zero, suc, ◌+◌, ◌-◌, ◌*◌, ◌/◌, ◌%◌, ◌^◌, ◌<◌, ◌≤◌, Bool, true, if◌then◌else◌, not, ◌&&◌, ◌||◌, List, [], ◌∷◌, ◌++◌, length, ◌==◌, nat_lt, slice_index}
 use Rattle.forms.specs.Sets.{sub, every}
 use Rattle.forms.specs.Terms.{Terms, Ascending, Apart}
 use Rattle.stored.specs.Packing.{field_bit, spelled, bit_at, packed}
@@ -16,9 +16,9 @@ bytes_for w n = (term_start w n + 7) / 8
 -- bit i of a stored form
 abbrev pub stored_bit : ℕ → ℕ → List ℕ → ℕ → ℕ
 stored_bit w v f i =
-    cond (nat_lt i 4) (field_bit 4 v i)
-    (cond (nat_lt i (4 + w)) (field_bit w (length f - 1) (i - 4))
-    (field_bit 63 (slice_index f ((i - (4 + w)) / 63)) ((i - (4 + w)) % 63)))
+    if nat_lt i 4 then field_bit 4 v i
+    else if nat_lt i (4 + w) then field_bit w (length f - 1) (i - 4)
+    else field_bit 63 (slice_index f ((i - (4 + w)) / 63)) ((i - (4 + w)) % 63)
 
 unfoldable pub stored : ℕ → ℕ → List ℕ → List ℕ
 stored w v f = packed (stored_bit w v f) (bytes_for w (length f))
@@ -56,14 +56,17 @@ pub data Loaded : Type 0 where
 
 -- the tests of the terms
 abbrev pub checked : List ℕ → Loaded
-checked f = cond (ascends 0 f) (cond (none_inside f) (accepted f) (refused 15)) (refused 14)
+checked f =
+    if not (ascends 0 f) then refused 14
+    else if not (none_inside f) then refused 15
+    else accepted f
 
 unfoldable pub loaded : ℕ → ℕ → List ℕ → Loaded
 loaded w v bytes =
-    cond (nat_lt (length bytes) 2 || not (version_in bytes == v)) (refused 11)
-    (cond (length bytes == bytes_for w (count_in w bytes))
-    (cond (filling_in w bytes (count_in w bytes) == 0) (checked (terms_in w bytes (count_in w bytes))) (refused 13))
-    (refused 12))
+    if nat_lt (length bytes) 2 || not (version_in bytes == v) then refused 11
+    else if not (length bytes == bytes_for w (count_in w bytes)) then refused 12
+    else if not (filling_in w bytes (count_in w bytes) == 0) then refused 13
+    else checked (terms_in w bytes (count_in w bytes))
 
 -- loading undoes storing: every list of terms that a form can have, and that the count can tell, comes back
 abbrev pub LoadsBack : ℕ → ℕ → Type 0

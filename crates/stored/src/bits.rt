@@ -13,7 +13,8 @@ pub(crate) trait Bits: Copy {
     ghost zero_or_one: { (bits : Self) → IsBits (bit_of bits) };
 }
 
-// The number that some bits spell, the most significant first.
+// The number that some bits spell, the most significant first. They are at most 63, so doubling
+// loses none.
 pub(crate) fn spelled<B: Bits>(bits: B, from: usize, width: usize) -> u64
     requires end { from + width < 2 ^ 64 }
     requires width { width ≤ 63 }

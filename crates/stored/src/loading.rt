@@ -13,7 +13,7 @@ use tables::Table;
 
 /// The form that bytes store.
 /// Faults are looked for in the order of `LoadFault`'s cases, each over all terms.
-#[tactic(auto, unfolding(crate::specs::Layout::loaded), using(crate::proofs::Undoing::stored_loaded))]
+#[tactic(auto, unfolding(crate::specs::Layout::loaded), using(crate::proofs::Undoing::stores_back))]
 pub fn load(bytes: &[u8]) -> Result<Form, LoadFault>
     ensures exact { outcome result ≡ content_of bytes.now }
     ensures back { LoadedBack result bytes.now }
@@ -47,6 +47,7 @@ fn terms(bytes: &[u8], count: usize) -> Option<Table<Term, MOST_TERMS>>
     ensures none { IfNone result (ascends 0 (terms_in count_bits bytes.now count) ≡ false) }
 {
     let mut terms = Table::new(term(bytes, 0)?);
+    // By numbers: a term's number says where its bits stand, and there is no slice of terms yet.
     for index in 0..count {
         let _ = terms.push(term(bytes, index)?);
     }
@@ -56,7 +57,8 @@ fn terms(bytes: &[u8], count: usize) -> Option<Table<Term, MOST_TERMS>>
 // The term at an index, or `None` where it is empty.
 fn term(bytes: &[u8], index: usize) -> Option<Term>
     requires { index < most_terms }
-    ensures { MatchOption result (term_in count_bits bytes.now index ≡ 0) (λ t. (t ≡ term_in count_bits bytes.now index) × (0 < t)) }
+    ensures { MatchOption result (term_in count_bits bytes.now index ≡ 0)
+        (λ t. (t ≡ term_in count_bits bytes.now index) × (0 < t)) }
 {
     Term::numbered(spelled(bytes, term_start(index), TERM_BITS))
 }
@@ -74,13 +76,15 @@ fn formed(terms: &[Term]) -> Result<Form, LoadFault>
     requires some { 0 < length terms.now }
     requires room { length terms.now ≤ most_terms }
     requires ascend { ascends 0 terms.now ≡ true }
-    ensures { outcome result ≡ (if none_inside terms.now then accepted terms.now else refused 15) }
+    ensures { outcome result
+        ≡ (if none_inside terms.now then accepted terms.now else refused 15) }
 {
     let mut form = Form::single(terms[0]);
     for term in &terms[1..] {
         if form.is_true_on(CellSet::from(*term)) {
             return Err(LoadFault::TermInsideAnother);
         }
+        // Never declined: the terms are no more than `MOST_TERMS`.
         let _ = form.enter(*term);
     }
     Ok(form)

@@ -1,4 +1,4 @@
-use Rattle.std.proofs.Common.{◌≡◌, ℕ, List, ◌++◌, take, drop, ap, arith, length-take}
+use Rattle.std.proofs.Common.{◌≡◌, ℕ, List, ◌++◌, drop, ap, arith, length-take}
 use Rattle.forms.specs.Parts.{terms_of}
 use Rattle.stored.specs.Layout.{stored_bit, count_bits, version}
 use Rattle.stored.specs.Outcomes.{bytes_of}
@@ -14,7 +14,7 @@ returns-then-out-size-clause-told c = told_by_bytes c.args.form.now
 
 pub loop-index-preserved : goal.loop-index-preserved
 loop-index-preserved c =
-    byte_more (stored_bit count_bits version (terms_of c.args.form.now)) (take c.stored_len-size.result c.args.out.now) c.loop-index.front c.loop-index.index c.spelled.result
+    byte_more (stored_bit count_bits version (terms_of c.args.form.now)) _ c.loop-index.front c.loop-index.index c.spelled.result
     c.loop-index.invariant c.loop-index-test.true c.spelled.ensures.value
 
 pub returns : goal.returns
@@ -22,7 +22,7 @@ returns c =
     let f : List ℕ = terms_of c.args.form.now in
     let n : ℕ = c.stored_len-size.result in
     let e : c.loop-index.front ≡ bytes_of f =
-    bytes_all f (take n c.args.out.now) c.loop-index.front c.loop-index.index n c.loop-index.invariant c.stored_len-size.ensures.value (omega (arith, length-take n c.args.out.now)) (omega (arith, length-take n c.args.out.now)) in
+    bytes_all f _ c.loop-index.front c.loop-index.index n c.loop-index.invariant c.stored_len-size.ensures.value (omega (arith, length-take n c.args.out.now)) (omega (arith, length-take n c.args.out.now)) in
     let a : c.loop-index.front ++ drop n c.args.out.now ≡ bytes_of f ++ drop n c.args.out.now = ap (λ (y : List ℕ). y ++ drop n c.args.out.now) e in
     record {
       exact = (c.stored_len-size.ensures.value, c.if-out-size.false, a);
