@@ -1,20 +1,20 @@
 -- Reading weighed cells one by one.
-use Rattle.std.proofs.Common.{◌≡◌, ℕ, zero, suc, ◌<◌, ◌≤◌, Bool, true, false, cond, not, ◌&&◌, eqb, leb, ◌⊎◌, List, [], ◌∷◌, ◌++◌, length, drop, Some, None, Option, sym, refl, ap, ◌∙◌, subst, ap₂, inl, inr, append_assoc, arith, length-append, eq-eqb, eqb-true, le-leb, leb-true}
+use Rattle.std.proofs.Common.{◌≡◌, ℕ, zero, suc, ◌<◌, ◌≤◌, Bool, true, false, cond, not, ◌&&◌, eqb, leb, List, [], ◌∷◌, ◌++◌, length, drop, Ok, Err, Result, sym, refl, ap, ◌∙◌, subst, ap₂, append_assoc, arith, length-append, eq-eqb, eqb-true, le-leb, leb-true}
 use mathlib.Core.Bool.{false≢true}
-use Rattle.std.specs.Bool.{then_some}
-use Rattle.std.specs.Option.{MatchOption}
 use Rattle.std.proofs.lemmas.Bool.{and_parts}
 use Rattle.filters.specs.declared.weights.Weights.{Weights}
+use Rattle.filters.specs.declared.weights.adding.WeightsFault.{WeightsFault}
+use Rattle.filters.specs.declared.weights.adding.WeightsFault.TheVariants.{Full, Repeated}
 use Rattle.filters.specs.Basic.{Weighed, most_cells, total, lacks, different, weight_rule}
 use Rattle.filters.specs.Weights.{listed, Added}
-use Rattle.filters.proofs.Weighing.{listed_length}
+use Rattle.filters.proofs.Weighing.{listed_few}
 use Rattle.letters.specs.declared.tokens.Sign.TheVariants.{OpenRound}
 use Rattle.grammar.specs.declared.faults.Part.{Part}
 use Rattle.grammar.specs.declared.faults.Part.TheVariants.{Grammar}
 use Rattle.grammar.specs.Expr.{weight, most_weight}
 use Rattle.grammar.specs.Reading.{Out, ok, bad, bind, Toks, Read, read, closes, sign_of, amount_of, ruled, weighed_of, weights_of, weighted_of}
 use Rattle.grammar.proofs.LeafFronts.{amount_fewer, weighed_fewer}
-use Rattle.expressions.specs.Outcomes.{few, Lists, Extends}
+use Rattle.expressions.specs.Outcomes.{few, Lists}
 
 -- cells that were read before
 abbrev pub prefixed : List Weighed → Out (Read (List Weighed)) → Out (Read (List Weighed))
@@ -118,26 +118,20 @@ refuted : (b : Bool) → (b ≡ true → ⊥) → b ≡ false
 refuted true h = absurd (h refl)
 refuted false h = refl
 
--- whether one more cell can be added is whether they are few and different with it
-pub extends : (a : Bool) (w z : Weights) (x : Weighed) → Added a x.cell x.times (listed w) (listed z) → Extends (then_some a z) w x
-extends true w z x d = d.2
-extends false w z x d = refuted (few (listed w ++ x ∷ [])) (λ e. go (few_last (listed w) x e) d.0)
-  where
-    go : (few (listed w) ≡ true) × (lacks x.cell (listed w) ≡ true) × (length (listed w) < most_cells) → (length (listed w) ≡ most_cells) ⊎ (lacks x.cell (listed w) ≡ false) → ⊥
-    go f (inl e) = omega (arith, f.2, e)
-    go f (inr e) = false≢true (sym e ∙ f.1)
+-- where one more cell is not added, they are not few and different with it
+pub not_added : (e : WeightsFault) (xs ys : List Weighed) (x : Weighed) → Added (Err e) x.cell x.times xs ys → few (xs ++ x ∷ []) ≡ false
+not_added Full xs ys x d = refuted (few (xs ++ x ∷ [])) (λ e. omega (arith, (few_last xs x e).2, d.0))
+not_added Repeated xs ys x d = refuted (few (xs ++ x ∷ [])) (λ e. false≢true (sym d.1 ∙ (few_last xs x e).1))
 
 -- once there are too many or a repeated one, there are with one more
-pub lists_more : (o r : Option Weights) (xs : List Weighed) (x : Weighed) → Lists o xs → MatchOption o (r ≡ None) (λ w. Extends r w x) → Lists r (xs ++ x ∷ [])
-lists_more (Some w) (Some z) xs x h d = d ∙ ap (λ (ys : List Weighed). ys ++ x ∷ []) h
-lists_more (Some w) None xs x h d = subst (λ (ys : List Weighed). few (ys ++ x ∷ []) ≡ false) h d
-lists_more None r xs x h d = subst (λ (o : Option Weights). Lists o (xs ++ x ∷ [])) (sym d) (refuted (few (xs ++ x ∷ [])) (λ e. false≢true (sym h ∙ (few_last xs x e).0)))
+pub never_few : (xs : List Weighed) (x : Weighed) → few xs ≡ false → few (xs ++ x ∷ []) ≡ false
+never_few xs x h = refuted (few (xs ++ x ∷ [])) (λ e. false≢true (sym h ∙ (few_last xs x e).0))
 
 -- ---- the rule of the whole list
 
 pub rule_kept : (w : Weights) (k : ℕ) → k ≤ total (listed w) → weight_rule k (listed w) ≡ true
 rule_kept w k l =
-    ap₂ ◌&&◌ (ap₂ ◌&&◌ (le-leb (length (listed w)) most_cells (omega (arith, listed_length w, w.room))) w.apart) (le-leb k (total (listed w)) l)
+    ap₂ ◌&&◌ (ap₂ ◌&&◌ (le-leb (length (listed w)) most_cells (listed_few w)) w.apart) (le-leb k (total (listed w)) l)
 
 -- ---- the whole call
 
@@ -150,7 +144,7 @@ module _ (at k : ℕ) (ts us vs : Toks) (s : sign_of OpenRound ts ≡ ok us) (a 
   fewer : length vs ≤ length us
   fewer = omega (arith, amount_fewer 1 most_weight k us vs a)
 
-  abbrev Listed : Option Weights → Toks → Type 0
+  abbrev Listed : Result Weights WeightsFault → Toks → Type 0
   Listed w rest = (m : ℕ) → length vs ≤ m → (xs : List Weighed) × (weights_of m vs ≡ read xs rest) × Lists w xs
 
   ruled_by : (xs : List Weighed) (rest : Toks) (b : Bool) → weights_of (length us) vs ≡ read xs rest → weight_rule k xs ≡ b → weighted_of at ts ≡ ruled at b (read (weight at k xs) rest)
@@ -158,7 +152,7 @@ module _ (at k : ℕ) (ts us vs : Toks) (s : sign_of OpenRound ts ≡ ok us) (a 
       begun ∙ ap (λ (o : Out (Read (List Weighed))). bind o (λ xs. ruled at (weight_rule k xs.got) (read (weight at k xs.got) xs.rest))) e
       ∙ ap (λ (c : Bool). ruled at c (read (weight at k xs) rest)) q
 
-  pub weighted_ok : (w : Weights) (rest : Toks) → Listed (Some w) rest → k ≤ total (listed w) → weighted_of at ts ≡ read (weight at k (listed w)) rest
+  pub weighted_ok : (w : Weights) (rest : Toks) → Listed (Ok w) rest → k ≤ total (listed w) → weighted_of at ts ≡ read (weight at k (listed w)) rest
   weighted_ok w rest h l =
       let (xs, e, q) = h (length us) fewer in
       ruled_by (listed w) rest true (subst (λ (ys : List Weighed). weights_of (length us) vs ≡ read ys rest) (sym q) e) (rule_kept w k l)

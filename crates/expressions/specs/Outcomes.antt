@@ -1,11 +1,14 @@
 -- What compiling and its parts answer, against the definitions.
-use Rattle.std.specs.Prelude.{◌≡◌, ℕ, Bool, true, false, ◌&&◌, List, [], ◌∷◌, ◌++◌, length, Some, None, Ok, Err, Option, Result, nat_le}
+use Rattle.std.specs.Prelude.{◌≡◌, ℕ, Bool, true, false, ◌&&◌, List, length, Ok, Err, Result, nat_le}
 use Rattle.forms.specs.declared.form.Form.{Form}
 use Rattle.forms.specs.Faults.{fault_number}
 use Rattle.forms.specs.Parts.{terms_of}
 use Rattle.filters.specs.declared.weights.Weights.{Weights}
+use Rattle.filters.specs.declared.weights.adding.WeightsFault.{WeightsFault}
 use Rattle.filters.specs.Basic.{Weighed, most_cells, different}
 use Rattle.filters.specs.Weights.{listed}
+use Rattle.grammar.specs.declared.faults.GrammarFault.{GrammarFault}
+use Rattle.grammar.specs.declared.faults.GrammarFault.TheVariants.{BrokenRule}
 use Rattle.grammar.specs.declared.faults.ReadFault.{ReadFault}
 use Rattle.grammar.specs.declared.faults.Part.TheVariants.{Forms}
 use Rattle.grammar.specs.declared.words.Shape.{Shape}
@@ -28,25 +31,20 @@ Works (Ok v) left o = (e : Expr) × (o ≡ ok (record { got = e; rest = left }))
 Works (Err e) left o = o ≡ flaw e
 
 -- a filter over a box, where its rule is kept
-abbrev pub Shapes : Option (Result Form FormsFault) → Shape → ℕ → ℕ → ℕ → Type 0
-Shapes (Some v) s at h w = (shape_rule s h w ≡ true) × (held v ≡ placed at (shape_of s h w))
-Shapes None s at h w = shape_rule s h w ≡ false
+abbrev pub Shapes : Result (Result Form FormsFault) GrammarFault → Shape → ℕ → ℕ → ℕ → Type 0
+Shapes (Ok v) s at h w = (shape_rule s h w ≡ true) × (held v ≡ placed at (shape_of s h w))
+Shapes (Err e) s at h w = (e ≡ BrokenRule at) × (shape_rule s h w ≡ false)
 
 -- at most nine different cells
 abbrev pub few : List Weighed → Bool
 few xs = nat_le (length xs) most_cells && different xs
 
 -- these cells were read, if they are few and different
-abbrev pub Lists : Option Weights → List Weighed → Type 0
-Lists (Some w) xs = listed w ≡ xs
-Lists None xs = few xs ≡ false
+abbrev pub Lists : Result Weights WeightsFault → List Weighed → Type 0
+Lists (Ok w) xs = listed w ≡ xs
+Lists (Err _) xs = few xs ≡ false
 
--- the same of the next of them, behind those that were read before
-abbrev pub Extends : Option Weights → Weights → Weighed → Type 0
-Extends (Some v) w x = listed v ≡ listed w ++ x ∷ []
-Extends None w x = few (listed w ++ x ∷ []) ≡ false
-
-abbrev pub ReadsWeights : Result (Option Weights) ReadFault → Toks → Out (Read (List Weighed)) → Type 0
+abbrev pub ReadsWeights : Result (Result Weights WeightsFault) ReadFault → Toks → Out (Read (List Weighed)) → Type 0
 ReadsWeights (Ok w) left o = (xs : List Weighed) × (o ≡ ok (record { got = xs; rest = left })) × Lists w xs
 ReadsWeights (Err e) left o = o ≡ flaw e
 

@@ -1,10 +1,12 @@
 // Reading the arguments of a weighted rank.
-ghost use Rattle.std.specs.Prelude.{ℕ, ◌≤◌, length};
+ghost use Rattle.std.specs.Prelude.{ℕ, ◌≤◌, List, [], ◌∷◌, ◌++◌, length};
+ghost use Rattle.filters.specs.Basic.{Weighed};
 ghost use Rattle.grammar.specs.Reading.{weights_of, weighted_of};
-ghost use Rattle.expressions.specs.Outcomes.{Works, Extends, ReadsWeights};
+ghost use Rattle.expressions.specs.Outcomes.{Works, Lists, ReadsWeights};
 
 use crate::joining::Held;
-use filters::Weights;
+use crate::leaves::unbroken;
+use filters::{Weights, WeightsFault};
 use forms::Cell;
 use grammar::{GrammarFault, ReadFault, Reader};
 use letters::Sign;
@@ -18,28 +20,36 @@ pub(crate) fn weighted(reader: &mut Reader<'_>, place: usize) -> Result<Held, Re
 {
     reader.sign(Sign::OpenRound)?;
     let k = reader.amount(1, MOST_WEIGHT)?;
-    let weights = weights(reader)?.ok_or(GrammarFault::BrokenRule(place))?;
-    let form = filters::weighted(&weights, k).ok_or(GrammarFault::BrokenRule(place))?;
-    Ok(Ok(form))
+    match weights(reader) {
+        Ok(Ok(weights)) => Ok(unbroken(filters::weighted(&weights, k), place)?),
+        Ok(Err(_)) => Err(GrammarFault::BrokenRule(place).into()),
+        Err(fault) => Err(fault),
+    }
 }
 
-// Weighed cells up to the closing bracket, or `None` of too many or of one that is repeated.
-fn weights(reader: &mut Reader<'_>) -> Result<Option<Weights>, ReadFault>
+// Weighed cells up to the closing bracket, or why the first that is not added is not.
+fn weights(reader: &mut Reader<'_>) -> Result<Result<Weights, WeightsFault>, ReadFault>
     ensures { (n : ℕ) → length reader.old ≤ n → ReadsWeights result reader.new (weights_of n reader.old) }
 {
-    let mut all = Some(Weights::none());
+    let mut all = Ok(Weights::none());
     loop {
         let (cell, times) = reader.weighed()?;
-        all = all.and_then(|weights| with(weights, cell, times));
+        all = with(all, cell, times);
         if reader.closing_bracket() {
             return Ok(all);
         }
     }
 }
 
-// The weights and one more cell, or `None` of too many or of one that is repeated.
-fn with(mut weights: Weights, cell: Cell, times: u8) -> Option<Weights>
-    ensures { Extends result weights (record { cell = cell.number; times = times }) }
+// The weights and one more cell, or why the first that is not added is not.
+fn with(all: Result<Weights, WeightsFault>, cell: Cell, times: u8) -> Result<Weights, WeightsFault>
+    ensures { (xs : List Weighed) → Lists all xs → Lists result (xs ++ record { cell = cell; times = times } ∷ []) }
 {
-    weights.add(cell, times).then_some(weights)
+    match all {
+        Ok(mut weights) => {
+            weights.add(cell, times)?;
+            Ok(weights)
+        }
+        Err(fault) => Err(fault),
+    }
 }

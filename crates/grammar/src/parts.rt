@@ -12,9 +12,9 @@ use forms::Cell;
 use letters::Sign;
 
 // The farthest row and column of a cell from the middle.
-const ROW_REACH: u16 = 4;
+const ROW_REACH: u16 = Cell::ROW_REACH as u16;
 
-const COLUMN_REACH: u16 = 3;
+const COLUMN_REACH: u16 = Cell::COLUMN_REACH as u16;
 
 // The most times that an element may be repeated.
 const MOST_TIMES: u16 = 99;
@@ -23,7 +23,7 @@ impl Reader<'_> {
     /// Takes the row and the column of a cell and its closing bracket; the opening one is taken already.
     #[tactic(auto, unfolding(crate::specs::Reading::cell_of))]
     pub fn cell(&mut self) -> Result<Cell, ReadFault>
-        ensures read { Reads (λ c. c.number) result self.new (cell_of self.old) }
+        ensures read { Reads (λ c. c) result self.new (cell_of self.old) }
         ensures err { OnErr result (self.new ≡ self.old) }
     {
         let mut ahead = self.fork();
@@ -53,7 +53,7 @@ impl Reader<'_> {
     /// Takes a comma, a cell and how often it counts.
     #[tactic(auto, unfolding(crate::specs::Reading::weighed_of))]
     pub fn weighed(&mut self) -> Result<(Cell, u8), ReadFault>
-        ensures read { Reads (λ x. record { cell = x.0.number; times = x.1 }) result self.new (weighed_of self.old) }
+        ensures read { Reads (λ x. record { cell = x.0; times = x.1 }) result self.new (weighed_of self.old) }
         ensures err { OnErr result (self.new ≡ self.old) }
     {
         let mut ahead = self.fork();
@@ -71,7 +71,7 @@ impl Reader<'_> {
 fn cell_at(row: i16, column: i16) -> Cell
     requires row { unsigned_abs row ≤ row_reach }
     requires column { unsigned_abs column ≤ column_reach }
-    ensures { result.number ≡ number_at row column }
+    ensures { result ≡ number_at row column }
 {
     Cell::new(row.into(), column.into()).unwrap()
 }

@@ -5,4 +5,4 @@ use Rattle.expressions.proofs.leaves.single.Goals as goal
 
 pub returns : goal.returns
 unfolding form_of
-returns c = (cell c.in_ok-cell.cell.number, search rules, search rules)
+returns c = (cell c.in_ok-cell.cell, search rules, search rules)

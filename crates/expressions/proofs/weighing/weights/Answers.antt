@@ -1,12 +1,11 @@
-use Rattle.std.proofs.Common.{List, [], ◌∷◌, ◌++◌, sym, ap, ◌∙◌, rules}
+use Rattle.std.proofs.Common.{[], ◌∷◌, ◌++◌, sym, ap, ◌∙◌}
 use Rattle.std.proofs.lemmas.Result.{err_from_is_err_and}
 use Rattle.filters.specs.Basic.{Weighed}
 use Rattle.grammar.specs.Reading.{Toks, read}
 use Rattle.grammar.proofs.LeafFronts.{weighed_fewer}
-use Rattle.expressions.specs.Outcomes.{Lists}
-use Rattle.expressions.proofs.WeightSteps.{start, more, finished, failed, lists_more}
+use Rattle.expressions.proofs.WeightSteps.{start, more, finished, failed}
 use Rattle.expressions.proofs.weighing.weights.Goals as goal
-use Rattle.expressions.proofs.weighing.weights.Goals.{After-and_then-all}
+use Rattle.expressions.proofs.weighing.weights.Goals.{After-with-all}
 
 pub loop-cell-init : goal.loop-cell-init
 loop-cell-init c = ([], c.none.ensures, start c.args.reader.now)
@@ -18,35 +17,31 @@ returns-in_err-cell c n l =
     rw (p.1, p.2) (failed c.args.reader.now c.loop-cell.reader xs _ _ _ b c.in_err-cell.ensures.read n l)
 
 -- the cell that was read
-abbrev cell : After-and_then-all → Weighed
-cell c = record { cell = c.in_ok-cell.cell.number; times = c.in_ok-cell.times }
-
--- the weights with it
-listed_more : (c : After-and_then-all) (xs : List Weighed) → Lists c.loop-cell.all xs → Lists c.and_then-all.result (xs ++ cell c ∷ [])
-listed_more c xs s = lists_more c.loop-cell.all c.and_then-all.result xs (cell c) s (search rules)
+abbrev cell : After-with-all → Weighed
+cell c = record { cell = c.in_ok-cell.cell; times = c.in_ok-cell.times }
 
 pub returns-then-closing_bracket : goal.returns-then-closing_bracket
 returns-then-closing_bracket c n l =
-    let d = (goal.at.returns-then-closing_bracket c).After-and_then-all in
+    let d = (goal.at.returns-then-closing_bracket c).After-with-all in
     let (xs, s, b) = c.loop-cell.invariant in
     let h = c.if-closing_bracket.ensures in (
       xs ++ cell d ∷ [],
       finished c.args.reader.now c.loop-cell.reader c.weighed.new.self xs (cell d) c.in_ok-cell.ensures.read b h.0 n l
           ∙ ap (λ (us : Toks). read (xs ++ cell d ∷ []) us) (sym h.1),
-      listed_more d xs s,
+      d.with-all.ensures xs s,
     )
 
 pub loop-cell-smaller : goal.loop-cell-smaller
 loop-cell-smaller c =
-    let x : Weighed = record { cell = c.in_ok-cell.cell.number; times = c.in_ok-cell.times } in
+    let x : Weighed = record { cell = c.in_ok-cell.cell; times = c.in_ok-cell.times } in
     rw (c.if-closing_bracket.ensures.1) (weighed_fewer x c.loop-cell.reader c.weighed.new.self c.in_ok-cell.ensures.read)
 
 pub loop-cell-preserved : goal.loop-cell-preserved
 loop-cell-preserved c =
-    let d = (goal.at.loop-cell-preserved c).After-and_then-all in
+    let d = (goal.at.loop-cell-preserved c).After-with-all in
     let (xs, s, b) = c.loop-cell.invariant in
     let h = c.if-closing_bracket.ensures in (
       xs ++ cell d ∷ [],
-      listed_more d xs s,
+      d.with-all.ensures xs s,
       rw (h.1) (more c.args.reader.now c.loop-cell.reader c.weighed.new.self xs (cell d) c.in_ok-cell.ensures.read b h.0),
     )

@@ -16,6 +16,6 @@ unwrap-requires c = there c.new.result (λ e. let h = rw e at c.new.ensures in g
 pub returns : goal.returns
 returns c =
     let h = rw c.unwrap.ensures at c.new.ensures in
-    let e : row_of c.unwrap.result.number ≡ c.args.row = omega (arith, ints, h.1) in
-    let d : column_of c.unwrap.result.number ≡ c.args.column = omega (arith, ints, h.2) in
-    placed c.unwrap.result.number c.args.row c.args.column e d
+    let e : row_of c.unwrap.result ≡ c.args.row = omega (arith, ints, h.1) in
+    let d : column_of c.unwrap.result ≡ c.args.column = omega (arith, ints, h.2) in
+    placed c.unwrap.result c.args.row c.args.column e d
