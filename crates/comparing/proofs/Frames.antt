@@ -14,16 +14,16 @@ use Rattle.comparing.specs.declared.witness.Witness.{Witness}
 use Rattle.comparing.specs.Witness.{low_of, high_of, frame_of}
 
 module _ {E : Type 0} (most : E → E → Bool) (s : Witness E) where
-  pub frame_shows : Shows most (frame_of most s) (low_of most s) (high_of most s) s.marks.bits
+  pub frame_shows : Shows most (frame_of most s) (low_of most s) (high_of most s) s.marks
   frame_shows r c l k =
-      ap₂ (λ (i j : ℕ). marked (low_of most s) (high_of most s) s.marks.bits (i * 7 + j))
+      ap₂ (λ (i j : ℕ). marked (low_of most s) (high_of most s) s.marks (i * 7 + j))
       (let e : nearest 9 (pos r) ≡ r = omega arith in e) (let e : nearest 7 (pos c) ≡ c = omega arith in e)
 
   module _ (o : Ordered most) (f : Form) where
-    pub middle_high : True (terms_of f) s.marks.bits → high_of most s ≡ value_at most (frame_of most s).element (terms_of f) (pos 4) (pos 3)
-    middle_high t = sym (frame_high most o (frame_of most s) (low_of most s) (high_of most s) s.marks.bits frame_shows
+    pub middle_high : True (terms_of f) s.marks → high_of most s ≡ value_at most (frame_of most s).element (terms_of f) (pos 4) (pos 3)
+    middle_high t = sym (frame_high most o (frame_of most s) (low_of most s) (high_of most s) s.marks frame_shows
         (ends most o s.first s.second) (terms_of f) (whole_form f) t)
 
-    pub middle_low : (True (terms_of f) s.marks.bits → ⊥) → low_of most s ≡ value_at most (frame_of most s).element (terms_of f) (pos 4) (pos 3)
-    middle_low n = sym (frame_low most o (frame_of most s) (low_of most s) (high_of most s) s.marks.bits frame_shows
+    pub middle_low : (True (terms_of f) s.marks → ⊥) → low_of most s ≡ value_at most (frame_of most s).element (terms_of f) (pos 4) (pos 3)
+    middle_low n = sym (frame_low most o (frame_of most s) (low_of most s) (high_of most s) s.marks frame_shows
         (ends most o s.first s.second) (terms_of f) (whole_form f) n)

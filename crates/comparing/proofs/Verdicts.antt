@@ -25,12 +25,12 @@ module _ {E : Type 0} (most : E → E → Bool) (o : Ordered most) (left right :
     samples = same_samples most o left right (terms_of f) p (q ∙ ap ok (sym t));
   }
   verdict (Some w) (m, t) = record {
-    bytes = λ e. apart (terms_of f) (terms_of g) w.marks.bits t (form_same f g e);
+    bytes = λ e. apart (terms_of f) (terms_of g) w.marks t (form_same f g e);
     marks = m;
     shown = λ r c l k. frame_shows most w r c l k
-        ∙ ap₂ (λ (a b : E). marked (lesser most a b) (greater most a b) w.marks.bits (r * 7 + c)) m.first m.second;
+        ∙ ap₂ (λ (a b : E). marked (lesser most a b) (greater most a b) w.marks (r * 7 + c)) m.first m.second;
     samples = λ n. differing most o left right (terms_of f) (terms_of g) p q (lesser most low high) (greater most low high) (ends most o low high)
-        (unequal most o low high n) w.marks.bits t;
+        (unequal most o low high n) w.marks t;
   }
 
   pub compared : (w : Option (Witness E)) → Told most (terms_of f) (terms_of g) low high w

@@ -36,12 +36,12 @@ module _ {E : Type 0} (most : E → E → Bool) where
   pub record Marks (f g : List ℕ) (low high : E) (w : Witness E) : Type 0 where
     pub first : w.first ≡ low
     pub second : w.second ≡ high
-    pub term : w.marks.bits ≡ slice_index (telling f g) 0
+    pub term : w.marks ≡ slice_index (telling f g) 0
 
   -- what two forms f and g are told apart by
   abbrev pub Told : List ℕ → List ℕ → E → E → Option (Witness E) → Type 0
   Told f g low high None = f ≡ g
-  Told f g low high (Some w) = Marks f g low high w × (OnlyFirst f g w.marks.bits ⊎ OnlyFirst g f w.marks.bits)
+  Told f g low high (Some w) = Marks f g low high w × (OnlyFirst f g w.marks ⊎ OnlyFirst g f w.marks)
 
   -- no witness: the forms have equal stored bytes, and the texts the same samples
   pub record Same (left right f g : List ℕ) : Type 0 where
@@ -53,8 +53,8 @@ module _ {E : Type 0} (most : E → E → Bool) where
   pub record Differ (left right f g : List ℕ) (low high : E) (w : Witness E) : Type 0 where
     pub bytes : bytes_of f ≡ bytes_of g → ⊥
     pub marks : Marks f g low high w
-    pub shown : Shows most (frame_of most w) (lesser most low high) (greater most low high) w.marks.bits
-    pub samples : (low ≢ high) → OtherSamples most left right (lesser most low high) (greater most low high) w.marks.bits
+    pub shown : Shows most (frame_of most w) (lesser most low high) (greater most low high) w.marks
+    pub samples : (low ≢ high) → OtherSamples most left right (lesser most low high) (greater most low high) w.marks
 
   abbrev pub Verdict : List ℕ → List ℕ → List ℕ → List ℕ → E → E → Option (Witness E) → Type 0
   Verdict left right f g low high None = Same left right f g

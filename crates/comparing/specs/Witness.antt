@@ -17,8 +17,8 @@ module _ {E : Type 0} (most : E → E → Bool) where
 
   -- 9 rows and 7 columns, with the greater on the cells of the set and the lesser elsewhere; the edges are repeated
   abbrev pub frame_of : Witness E → Meaning E
-  frame_of s = repeated 9 7 (λ r c. marked (low_of s) (high_of s) s.marks.bits (r * 7 + c))
+  frame_of s = repeated 9 7 (λ r c. marked (low_of s) (high_of s) s.marks (r * 7 + c))
 
   -- the greater where the form is true on the set, else the lesser
   abbrev pub Sampled : Witness E → List ℕ → E → Type 0
-  Sampled s f v = (True f s.marks.bits → v ≡ high_of s) × ((True f s.marks.bits → ⊥) → v ≡ low_of s)
+  Sampled s f v = (True f s.marks → v ≡ high_of s) × ((True f s.marks → ⊥) → v ≡ low_of s)

@@ -47,8 +47,6 @@ fn form(text: &[u8], side: Side) -> Result<Form, CompareFault>
 fn witness<K: Order>(left: &Form, right: &Form, low: K, high: K) -> Option<Witness<K>>
     ensures { Told K.Order.most (terms_of left.now) (terms_of right.now) low high result }
 {
-    match left.separating(right) {
-        Some(term) => Some(Witness::marking(term, low, high)),
-        None => None,
-    }
+    let term = left.separating(right)?;
+    Some(Witness::marking(term, low, high))
 }

@@ -6,19 +6,19 @@ ghost use Rattle.comparing.specs.Witness.{frame_of, Sampled};
 
 use super::Witness;
 use elements::Order;
-use forms::{Form, Term};
+use forms::{CellSet, Form, Term};
 
 impl<K: Order> Witness<K> {
     // The witness that has the greater of two elements on the cells of a term, and the lesser elsewhere.
     pub(crate) fn marking(term: Term, first: K, second: K) -> Witness<K>
         ensures first { result.first ≡ first }
         ensures second { result.second ≡ second }
-        ensures marks { result.marks.bits ≡ term.bits }
+        ensures marks { result.marks ≡ term }
     {
         Witness {
             first,
             second,
-            marks: term.set(),
+            marks: CellSet::from(term),
         }
     }
 

@@ -13,7 +13,7 @@ impl<K: Order> Witness<K> {
     // The element at a place of the frame.
     fn at(&self, row: u32, column: u32) -> K
         requires { (row < 9) × (column < 7) }
-        ensures { result ≡ marked (low_of K.Order.most self.now) (high_of K.Order.most self.now) self.now.marks.bits (row * 7 + column) }
+        ensures { result ≡ marked (low_of K.Order.most self.now) (high_of K.Order.most self.now) self.now.marks (row * 7 + column) }
     {
         let (low, high) = self.ends();
         match Cell::numbered((row * WIDTH + column) as u8) {

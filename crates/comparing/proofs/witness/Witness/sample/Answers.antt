@@ -20,7 +20,7 @@ returns-then-is_true_on g c =
 pub returns-else-is_true_on : goal.returns-else-is_true_on
 returns-else-is_true_on g c =
     let o : Ordered g.K.Order.most = ordered g.K.Order.most g.met.K.Order.reflexive g.met.K.Order.total g.met.K.Order.antisymmetric g.met.K.Order.transitive in
-    let n : True (terms_of c.args.form.now) c.args.self.now.marks.bits → ⊥ =
+    let n : True (terms_of c.args.form.now) c.args.self.now.marks → ⊥ =
     λ t. both_ways c.is_true_on.result c.if-is_true_on.false (c.is_true_on.ensures.terms.1 t) in
     let e = c.ends-low.ensures.low in
     record {
