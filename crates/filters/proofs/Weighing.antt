@@ -1,5 +1,5 @@
 -- Lists of cells with their times.
-use Rattle.std.proofs.Common.{◌≡◌, ℕ, zero, suc, ◌+◌, ◌*◌, ◌<◌, ◌≤◌, Bool, true, false, not, ◌&&◌, eqb, List, [], ◌∷◌, ◌++◌, map, length, Ok, Err, Result, append_assoc, sym, refl, ap, ◌∙◌, subst, inl, inr, arith}
+use Rattle.std.proofs.Common.{◌≡◌, ℕ, zero, suc, ◌+◌, ◌*◌, ◌<◌, ◌≤◌, Bool, true, false, not, ◌&&◌, eqb, List, [], ◌∷◌, ◌++◌, map, length, Ok, Err, Result, append_assoc, sym, refl, ap, ◌∙◌, inl, inr, arith}
 use mathlib.Core.Logic.{∥∥₁_elim}
 use mathlib.Core.HLevel.{×_prop}
 use native.Mathlib.Bridge.{le_prop}

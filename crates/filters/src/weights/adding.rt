@@ -31,8 +31,8 @@ impl From<Full> for WeightsFault {
 impl fmt::Display for WeightsFault {
     fn fmt<W: fmt::Write>(&self, f: &mut fmt::Formatter<W>) -> fmt::Result {
         match self {
-            WeightsFault::Full => f.write_str("no more cells may be weighed"),
-            WeightsFault::Repeated => f.write_str("the cell is weighed already"),
+            Self::Full => f.write_str("no more cells may be weighed"),
+            Self::Repeated => f.write_str("the cell is weighed already"),
         }
     }
 }
@@ -46,9 +46,8 @@ impl Weights {
         let Some(cell) = Cell::numbered(0) else {
             unreachable()
         };
-        Weights {
-            table: Table::new(Weighed { cell, times: 0 }),
-        }
+        let table = Table::new(Weighed { cell, times: 0 });
+        Weights { table }
     }
 
     /// Adds a cell whose element counts so often.

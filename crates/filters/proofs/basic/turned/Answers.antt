@@ -5,7 +5,7 @@ use Rattle.forms.specs.Entering.{Made, made, declined, bounded, enter}
 use Rattle.forms.specs.Faults.{fault_number}
 use Rattle.forms.specs.Parts.{terms_of, told}
 use Rattle.joins.specs.Joins.{after, enter_all}
-use Rattle.filters.specs.Basic.{opposite, dilation_of}
+use Rattle.filters.specs.Basic.{opposite}
 use Rattle.filters.proofs.Truths.{dilation_start}
 use Rattle.filters.proofs.basic.turned.Goals as goal
 

@@ -1,5 +1,4 @@
-use Rattle.std.proofs.Common.{◌≡◌, ℕ, List, [], ◌∷◌, ◌++◌, append-nil, sym, ap, ◌∙◌}
-use Rattle.filters.specs.Boxes.{box}
+use Rattle.std.proofs.Common.{ℕ, List, ◌++◌, append-nil, sym, ap, ◌∙◌}
 use Rattle.filters.specs.Basic.{Weighed, once}
 use Rattle.filters.specs.Weights.{listed}
 use Rattle.filters.proofs.Weighing.{once_more}
