@@ -37,7 +37,7 @@ fn weights(text: &[u8], at: usize) -> Result<(Option<Weights>, usize), ReadFault
     let mut from = at;
     loop {
         let ((cell, times), end) = grammar::weighed(text, from)?;
-        let added = all.add(cell, times);
+        let added = all.add(cell, times).is_ok();
         sound &= added;
         from = end;
         if let Some(end) = grammar::closing_bracket(text, from) {

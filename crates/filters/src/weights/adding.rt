@@ -51,8 +51,8 @@ impl Weights {
     }
 
     /// Adds a cell whose element counts so often.
-    /// Declined with `Full` where `MOST_CELLS` stand, and else with `Repeated` where this cell does;
-    /// then nothing changes.
+    /// Declined with `Full` where `MOST_CELLS` stand, and else with `Repeated` where this cell
+    /// does; then nothing changes.
     pub fn add(&mut self, cell: Cell, times: u8) -> Result<(), WeightsFault>
         ensures { Added result cell times (listed self.old) (listed self.new) }
     {
