@@ -1,14 +1,14 @@
 -- The laws of openings and closings.
-use Rattle.std.proofs.Common.{◌≡◌, ℕ, List, ℤ, ◌+ℤ◌, ◌-ℤ◌, neg_ℤ, Ok, Err, Result, sym, ap, ◌∙◌, subst, arith}
+use Rattle.std.proofs.Common.{◌≡◌, ℕ, List, ℤ, ◌+ℤ◌, ◌-ℤ◌, neg_ℤ, Ok, Err, Result, sym, ap, subst, arith}
 use Rattle.std.proofs.lemmas.Int.{ints}
 use Rattle.forms.specs.declared.form.Form.{Form}
 use Rattle.forms.specs.declared.faults.Fault.{Fault}
 use Rattle.forms.specs.Window.{row_of, column_of}
 use Rattle.forms.specs.Terms.{In}
-use Rattle.forms.specs.Entering.{Made, made}
+use Rattle.forms.specs.Entering.{made}
 use Rattle.forms.specs.Places.{Picks, TrueAt}
 use Rattle.forms.specs.Parts.{terms_of, outcome}
-use Rattle.joins.specs.Joins.{after, compose}
+use Rattle.joins.specs.Joins.{compose}
 use Rattle.joins.specs.Outcomes.{Ensured}
 use Rattle.joins.proofs.Entries.{between}
 use Rattle.joins.proofs.Composed.{compose_to, compose_from}
@@ -129,11 +129,3 @@ module _ (h w : ℕ) (s : Sides h w) where
   closing_again (Ok g) q = let (d, e, z) = between (dilation_of h w) (λ d. compose (erosion_of h w) d) (terms_of g) (sym q) in
       λ p r c. (close_again d (terms_of g) e z (Picks p) r c, close_over d (terms_of g) e z (TrueAt (terms_of g) (Picks p)) r c)
   closing_again (Err n) q = tt
-
--- the exact outcomes
-module _ (o : Made) (h w : ℕ) (e d : List ℕ) (p : e ≡ erosion_of h w) (q : made d ≡ dilation_of h w) where
-  pub opening_is : o ≡ compose d e → o ≡ opening_of h w
-  opening_is r = r ∙ ap (compose d) p ∙ ap (λ (m : Made). after m (λ d. compose d (erosion_of h w))) q
-
-  pub closing_is : o ≡ compose e d → o ≡ closing_of h w
-  closing_is r = r ∙ ap (λ (y : List ℕ). compose y d) p ∙ ap (λ (m : Made). after m (λ d. compose (erosion_of h w) d)) q

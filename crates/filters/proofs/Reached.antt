@@ -1,24 +1,23 @@
 -- Entering the sets that count enough, by the steps of the recursion, and where the forms are true.
-use Rattle.std.proofs.Common.{◌≡◌, ℕ, zero, suc, ◌+◌, ◌-◌, ◌*◌, ◌≤◌, true, leb, List, [], ◌∷◌, ◌++◌, map, length, get_or, take, drop, ◌+ℤ◌, Some, None, Option, sym, refl, ap, ◌∙◌, subst, ap₂, inl, inr, arith}
+use Rattle.std.proofs.Common.{◌≡◌, ℕ, zero, suc, ◌+◌, ◌-◌, ◌*◌, ◌≤◌, true, leb, List, [], ◌∷◌, ◌++◌, map, length, get_or, take, drop, Some, None, Option, sym, refl, ap, ◌∙◌, subst, ap₂, inl, inr, arith}
 use lib.Bits.{bit_or, or_zero_r}
 use Rattle.std.proofs.lemmas.Bool.{and_from, and_right, le-leb, lt-leb}
 use Rattle.std.proofs.lemmas.List.{map-append, map-id, take_all}
 use Rattle.forms.specs.declared.form.Form.{Form}
-use Rattle.forms.specs.Window.{row_of, column_of}
 use Rattle.forms.specs.Sets.{single}
 use Rattle.forms.specs.Entering.{Made, made, declined, bounded, enter}
 use Rattle.forms.specs.Parts.{terms_of}
 use Rattle.forms.proofs.Entered.{some}
 use Rattle.joins.specs.Joins.{after, enter_all}
 use Rattle.joins.proofs.Turns.{all_append}
-use Rattle.filters.specs.Boxes.{Sides, box}
+use Rattle.filters.specs.Boxes.{box}
 use Rattle.filters.specs.Basic.{Weighed, most_cells, total, reaching, weight_of, once}
 use Rattle.filters.specs.Ranks.{Weighted, Ranked}
-use Rattle.filters.specs.Laws.{Weighs, Ranks, Provided}
+use Rattle.filters.specs.Laws.{Weighs, Provided}
 use Rattle.filters.specs.Truths.{counted, Cells}
-use Rattle.filters.proofs.Weighing.{once_total, once_cells}
+use Rattle.filters.proofs.Weighing.{once_total}
 use Rattle.filters.proofs.Unions.{or_assoc, window, from_window}
-use Rattle.filters.proofs.Truths.{box_length, box_cells, weight_to, weight_from, reaching_from, reaching_small}
+use Rattle.filters.proofs.Truths.{box_length, weight_to, weight_from, reaching_from, reaching_small}
 
 -- the sets that count k, each with the cells of s, entered into f
 abbrev pub reached : ℕ → List Weighed → ℕ → List ℕ → Made
@@ -93,10 +92,3 @@ ranked o h w k xs e l q = go o (subst (Weighted o k) e q)
 pub weighs : (o : Option Form) (k : ℕ) (xs : List Weighed) → Cells xs → Weighted o k xs → Provided o (Weighs k xs)
 weighs (Some f) k xs w q = λ p. (weight_to p k xs (terms_of f) w (sym q.2), weight_from p k xs (terms_of f) w (sym q.2))
 weighs None k xs w q = tt
-
-pub ranked_truth : (o : Option Form) (h w k : ℕ) → Sides h w → Ranked o h w k → Provided o (Ranks h w k)
-ranked_truth (Some f) h w k s q = λ p r c. (
-  weight_to (λ n. p (r +ℤ row_of n) (c +ℤ column_of n)) k (once (box h w)) (terms_of f) (once_cells (box h w) (box_cells h w s)) (sym q.2),
-  weight_from (λ n. p (r +ℤ row_of n) (c +ℤ column_of n)) k (once (box h w)) (terms_of f) (once_cells (box h w) (box_cells h w s)) (sym q.2),
-)
-ranked_truth None h w k s q = tt

@@ -1,13 +1,12 @@
 -- Lists of cells with their times.
-use Rattle.std.proofs.Common.{◌≡◌, ℕ, zero, suc, ◌+◌, ◌*◌, ◌<◌, ◌≤◌, Bool, true, false, not, ◌&&◌, eqb, List, [], ◌∷◌, ◌++◌, map, length, Ok, Err, Result, append_assoc, sym, refl, ap, ◌∙◌, subst, inl, inr, arith}
+use Rattle.std.proofs.Common.{◌≡◌, ℕ, zero, suc, ◌+◌, ◌*◌, ◌<◌, ◌≤◌, true, false, not, eqb, List, [], ◌∷◌, ◌++◌, map, length, Ok, Err, Result, append_assoc, sym, refl, ap, ◌∙◌, arith}
 use mathlib.Core.Logic.{∥∥₁_elim}
 use mathlib.Core.HLevel.{×_prop}
 use native.Mathlib.Bridge.{le_prop}
 use Rattle.std.proofs.lemmas.List.{length-append, length-take-le}
 use Rattle.std.proofs.lemmas.List.Recursion.{is_sum_by}
 use Rattle.std.proofs.lemmas.Bool.{and_parts, and_from, both_ways, ne_eqb, eqb-false, not-true}
-use Rattle.std.specs.List.{list_all, sum_by}
-use Rattle.forms.specs.Terms.{In}
+use Rattle.std.specs.List.{sum_by}
 use Rattle.filters.specs.declared.weights.Weights.{Weights}
 use Rattle.filters.specs.declared.weights.adding.WeightsFault.{WeightsFault}
 use Rattle.filters.specs.declared.weights.adding.WeightsFault.TheVariants.{Full, Repeated}
@@ -63,11 +62,7 @@ lacks_later (x ∷ xs) y ys d =
     apart [] h = not-true (eqb x.cell y.cell) (and_parts (not (eqb x.cell y.cell)) (lacks x.cell ys) h).0
     apart (z ∷ zs) h = apart zs (and_parts (not (eqb x.cell z.cell)) (lacks x.cell (zs ++ y ∷ ys)) h).1
 
--- the test of each cell, and the sum of the times
-pub lacks_all : (c : ℕ) (xs : List Weighed) → list_all (λ x. not (eqb c x.cell)) xs ≡ lacks c xs
-lacks_all c [] = refl
-lacks_all c (x ∷ xs) = ap (λ (b : Bool). not (eqb c x.cell) && b) (lacks_all c xs)
-
+-- the sum of the times
 pub total_sum : (xs : List Weighed) → total xs ≡ sum_by (λ x. x.times) xs
 total_sum = is_sum_by total (λ x. x.times) refl (λ x xs. refl)
 
@@ -79,10 +74,6 @@ once_total (c ∷ cs) = omega (arith, once_total cs)
 once_length : (cs : List ℕ) → length (once cs) ≡ length cs
 once_length [] = refl
 once_length (c ∷ cs) = ap suc (once_length cs)
-
-pub once_cells : (cs : List ℕ) → ((c : ℕ) → In c cs → c < 63) → Cells (once cs)
-once_cells [] h = tt
-once_cells (c ∷ cs) h = (h c (inl refl), once_cells cs (λ d m. h d (inr m)))
 
 -- the cells of a box are different
 module _ (h w : ℕ) (s : Sides h w) where

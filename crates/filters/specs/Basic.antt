@@ -1,5 +1,6 @@
 -- The forms of the basic filters: erosion, dilation, opening, closing, ranks and weighted ranks.
 use Rattle.std.specs.Prelude.{ℕ, zero, suc, ◌+◌, ◌-◌, ◌*◌, ◌/◌, Bool, true, not, ◌&&◌, List, [], ◌∷◌, ◌++◌, map, length, neg_ℤ, ◌==◌, bit_or, nat_le}
+use Rattle.std.specs.List.{list_all}
 use Rattle.forms.specs.Window.{row_of, column_of, number_at}
 use Rattle.forms.specs.Sets.{single, set_of}
 use Rattle.forms.specs.Entering.{Made}
@@ -58,8 +59,7 @@ middle n = (n + 1) / 2
 
 -- the cell c is none of those listed
 abbrev pub lacks : ℕ → List Weighed → Bool
-lacks c [] = true
-lacks c (x ∷ xs) = not (c == x.cell) && lacks c xs
+lacks c xs = list_all (λ x. not (c == x.cell)) xs
 
 abbrev pub different : List Weighed → Bool
 different [] = true

@@ -95,5 +95,6 @@ pub fn closing(size: Size) -> Result<Form, Fault>
     ensures over { Ensured result Over }
     ensures again { Ensured result Again }
 {
+    // Not one function with `opening`: the order of the two arguments is all that they differ in.
     compose(&erosion(size), &dilation(size))
 }

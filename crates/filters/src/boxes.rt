@@ -21,7 +21,8 @@ impl Size {
 
     /// The sides of a box, or `None` where a box may not have them.
     pub fn new(height: u8, width: u8) -> Option<Size>
-        ensures { MatchOption result (¬ Sides height width) (λ s. Sides height width × (s.height ≡ height) × (s.width ≡ width)) }
+        ensures { MatchOption result (¬ Sides height width)
+            (λ s. Sides height width × (s.height ≡ height) × (s.width ≡ width)) }
     {
         if height == 0 || height > Size::TALLEST || width == 0 || width > Size::WIDEST {
             return None;

@@ -14,7 +14,8 @@ use crate::weighed::Weighed;
 use crate::weights::{MOST_CELLS, Weights};
 use forms::{CellSet, Fault, Form, Term};
 
-/// The k-th largest over the cells of a box, where it has at most `MOST_CELLS` and k is from 1 to their number.
+/// The k-th largest over the cells of a box, where it has at most `MOST_CELLS` and k is from 1 to
+/// their number.
 pub fn rank(size: Size, k: u8) -> Option<Form>
     ensures exact { Ranked result size.height size.width k }
     ensures truth { Provided result (Ranks size.height size.width k) }
@@ -37,7 +38,8 @@ pub fn median(size: Size) -> Option<Form>
     rank(size, cells / 2 + 1)
 }
 
-/// The k-th largest after each element is repeated as often as it counts, where k is from 1 to the sum of the times.
+/// The k-th largest after each element is repeated as often as it counts, where k is from 1 to the
+/// sum of the times.
 pub fn weighted(weights: &Weights, k: u16) -> Option<Form>
     ensures exact { Weighted result k (listed weights.now) }
     ensures truth { Provided result (Weighs k (listed weights.now)) }
@@ -59,6 +61,7 @@ fn each_once(size: Size) -> Weights
 {
     let mut weights = Weights::none();
     for cell in size.cells() {
+        // None is declined: the cells of a box are different, and here they are few.
         let _ = weights.add(cell, 1);
     }
     weights
@@ -72,7 +75,8 @@ fn enter_reaching(
     set: CellSet,
 ) -> Result<(), Fault>
     requires { left ≡ 0 → 0 < set }
-    ensures { told result (terms_of form.new) ≡ enter_all (map (bit_or set) (reaching weights.now left)) (terms_of form.old) }
+    ensures { told result (terms_of form.new)
+        ≡ enter_all (map (bit_or set) (reaching weights.now left)) (terms_of form.old) }
 {
     if left == 0 {
         let Some(term) = Term::new(set) else {

@@ -31,8 +31,8 @@ impl From<Full> for WeightsFault {
 impl fmt::Display for WeightsFault {
     fn fmt<W: fmt::Write>(&self, f: &mut fmt::Formatter<W>) -> fmt::Result {
         match self {
-            WeightsFault::Full => f.write_str("no more cells may be weighed"),
-            WeightsFault::Repeated => f.write_str("the cell is weighed already"),
+            Self::Full => f.write_str("no more cells may be weighed"),
+            Self::Repeated => f.write_str("the cell is weighed already"),
         }
     }
 }
@@ -46,14 +46,13 @@ impl Weights {
         let Some(cell) = Cell::numbered(0) else {
             unreachable()
         };
-        Weights {
-            table: Table::new(Weighed { cell, times: 0 }),
-        }
+        let table = Table::new(Weighed { cell, times: 0 });
+        Weights { table }
     }
 
     /// Adds a cell whose element counts so often.
-    /// Declined with `Full` where `MOST_CELLS` stand, and else with `Repeated` where this cell does;
-    /// then nothing changes.
+    /// Declined with `Full` where `MOST_CELLS` stand, and else with `Repeated` where this cell
+    /// does; then nothing changes.
     pub fn add(&mut self, cell: Cell, times: u8) -> Result<(), WeightsFault>
         ensures { Added result cell times (listed self.old) (listed self.new) }
     {

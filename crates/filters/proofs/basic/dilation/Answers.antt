@@ -11,8 +11,5 @@ unreachable-requires c =
     let d = dilation_made c.args.size.height c.args.size.width c.args.size.sides in
     never_declined (fault_number c.in_default.field-0) d.0 (c.in_default.ensures ∙ d.1)
 
-pub returns : goal.returns
-returns c = record {
-  exact = c.in-Ok.ensures;
-  truth = dilates c.args.size.height c.args.size.width c.args.size.sides (terms_of c.in-Ok.form) c.in-Ok.ensures;
-}
+pub returns-clause-truth : goal.returns-clause-truth
+returns-clause-truth c = dilates c.args.size.height c.args.size.width c.args.size.sides (terms_of c.in-Ok.form) c.in-Ok.ensures

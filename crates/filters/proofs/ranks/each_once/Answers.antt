@@ -1,5 +1,4 @@
-use Rattle.std.proofs.Common.{◌≡◌, ℕ, List, [], ◌∷◌, ◌++◌, append-nil, sym, ap, ◌∙◌}
-use Rattle.filters.specs.Boxes.{box}
+use Rattle.std.proofs.Common.{ℕ, List, ◌++◌, sym, ap, ◌∙◌}
 use Rattle.filters.specs.Basic.{Weighed, once}
 use Rattle.filters.specs.Weights.{listed}
 use Rattle.filters.proofs.Weighing.{once_more}
@@ -15,8 +14,3 @@ loop-cell-preserved c =
     once_more c.args.size.height c.args.size.width c.args.size.sides c.requires (listed c.loop-cell.weights) c.in-Some.cell c.next.new.self
     (ap (λ (cs : List ℕ). listed c.loop-cell.weights ++ once cs) (sym c.in-Some.ensures.steps) ∙ c.loop-cell.invariant)
     c.add.result (listed c.add.new.self) c.add.ensures
-
-pub returns : goal.returns
-returns c =
-    sym (append-nil (listed c.loop-cell.weights))
-    ∙ ap (λ (cs : List ℕ). listed c.loop-cell.weights ++ once cs) (sym c.in-None.ensures.steps.0) ∙ c.loop-cell.invariant

@@ -1,27 +1,12 @@
 use Rattle.std.proofs.Common.{◌≡◌, ℕ, ◌*◌, ◌<◌, ◌≤◌, Some, None, Option, MatchOption, slice_get, sym, ap, ◌∙◌, arith}
 use Rattle.std.proofs.lemmas.Option.{slice_get-get_or, slice_get_past}
 use Rattle.filters.specs.Boxes.{Sides, box}
-use Rattle.filters.proofs.Spans.{row_below, box_number, cell_number, number_below, box_at}
+use Rattle.filters.proofs.Spans.{box_number, cell_number, number_below, box_at}
 use Rattle.filters.proofs.Truths.{box_length}
 use Rattle.filters.proofs.boxes.Size.cell.Goals as goal
 
 pub returns-then-index-count : goal.returns-then-index-count
 returns-then-index-count c = sym (slice_get_past (box c.args.self.height c.args.self.width) c.args.index (omega (arith, box_length c.args.self.height c.args.self.width)))
-
-pub overflow_add-row : goal.overflow_add-row
-overflow_add-row c =
-    let l : c.args.index < c.args.self.height * c.args.self.width = omega arith in
-    omega (arith, row_below c.args.self.height c.args.self.width c.args.self.sides c.args.index l)
-
-pub overflow_mul-row : goal.overflow_mul-row
-overflow_mul-row c =
-    let l : c.args.index < c.args.self.height * c.args.self.width = omega arith in
-    omega (arith, number_below c.args.self.height c.args.self.width c.args.self.sides c.args.index l)
-
-pub overflow_add-row-2 : goal.overflow_add-row-2
-overflow_add-row-2 c =
-    let l : c.args.index < c.args.self.height * c.args.self.width = omega arith in
-    omega (arith, number_below c.args.self.height c.args.self.width c.args.self.sides c.args.index l)
 
 boxed : (h w : ℕ) → Sides h w → (i : ℕ) → i < h * w → (o : Option ℕ) → MatchOption o (63 ≤ box_number h w i) (λ k. k ≡ box_number h w i)
     → o ≡ slice_get (box h w) i

@@ -1,6 +1,5 @@
-use Rattle.std.proofs.Common.{◌≡◌, ℕ, ◌<◌, true, List, [], ◌∷◌, ◌++◌, sym, ◌∙◌, subst, arith}
-use Rattle.tables.specs.Table.{items_of}
-use Rattle.filters.specs.Basic.{Weighed, lacks, different}
+use Rattle.std.proofs.Common.{◌≡◌, true, List, sym, subst}
+use Rattle.filters.specs.Basic.{Weighed, different}
 use Rattle.filters.specs.Truths.{Cells}
 use Rattle.filters.specs.Weights.{listed}
 use Rattle.filters.proofs.Weighing.{cells_of, cells_push, different_push}
