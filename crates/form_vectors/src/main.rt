@@ -1,7 +1,7 @@
 // Cases of joining, composing, valuing, saving and loading forms, run and compared; with `time`, how long they take.
 #![tactic(auto)]
 
-use anyhow::Context;
+use anyhow::{Context, anyhow};
 use elements::Pixel;
 use filters::Size;
 use forms::{Fault, Form};
@@ -20,13 +20,8 @@ const UNTOUCHED: u8 = 170;
 
 // The sum of the terms as numbers.
 fn sum_of_terms(form: &Form) -> u128 {
-    let mut sum = 0u128;
-    for i in 0..form.len() {
-        if let Some(term) = form.term(i) {
-            sum = sum.wrapping_add(u128::from(term.number()));
-        }
-    }
-    sum
+    let numbers = form.terms().iter().map(|term| u128::from(term.number()));
+    numbers.fold(0, u128::wrapping_add)
 }
 
 fn show(rt: &HostRuntime, what: &str, outcome: Result<Form, Fault>) -> anyhow::Result<()> {
@@ -46,6 +41,7 @@ fn sized(height: u8, width: u8) -> anyhow::Result<Size> {
     Size::new(height, width).context("no such box")
 }
 
+// A line for each, not a table of outcomes: each holds a whole form, and is shown as soon as it is made.
 fn joined_forms(rt: &HostRuntime) -> anyhow::Result<()> {
     show(rt, "a cell", at(0, 0))?;
     show(rt, "a pair", pair(-4, -1, 1))?;
@@ -75,12 +71,18 @@ fn column_at(column: &[u16], row: i32) -> Window<Pixel> {
 
 // The opening of two rows, which moves no sample.
 fn opened() -> anyhow::Result<Form> {
-    filters::opening(sized(2, 1)?).ok().context("no opening")
+    match filters::opening(sized(2, 1)?) {
+        Ok(form) => Ok(form),
+        Err(_) => Err(anyhow!("no opening")),
+    }
 }
 
 // An opening of even length moves no sample.
 fn opened_column(rt: &HostRuntime) -> anyhow::Result<()> {
-    let form = opened()?;
+    let form = match opened() {
+        Ok(form) => form,
+        Err(error) => return Err(error),
+    };
     let column = [3u16, 9, 4, 4, 1];
     for (row, before) in (0..).zip(column.iter()) {
         println!(rt;
@@ -93,8 +95,13 @@ fn opened_column(rt: &HostRuntime) -> anyhow::Result<()> {
 
 // A window on which an opening and the place itself differ.
 fn told_apart(rt: &HostRuntime) -> anyhow::Result<()> {
-    let opened = opened()?;
-    let place = at(0, 0).ok().context("no cell")?;
+    let opened = match opened() {
+        Ok(form) => form,
+        Err(error) => return Err(error),
+    };
+    let Ok(place) = at(0, 0) else {
+        return Err(anyhow!("no cell"));
+    };
     if let Some(window) = telling_window(&opened, &place, Pixel(7), Pixel(2)) {
         println!(rt;
             "told apart: {} and {}",

@@ -1,10 +1,10 @@
 // How long values and compositions take here.
 use crate::joined::min_of_pairs;
 use crate::windows::window_of;
-use anyhow::Context;
+use anyhow::{Context, anyhow};
 use elements::Pixel;
 use filters::{Size, dilation, erosion, median};
-use forms::Form;
+use forms::{Fault, Form};
 use joins::compose;
 use std::alloc::{AllocError, Global};
 use std::io;
@@ -14,9 +14,10 @@ use values::{Window, value};
 const WINDOWS: usize = 200_000;
 
 pub(crate) fn time(rt: &HostRuntime) -> anyhow::Result<()> {
-    let form = Size::new(3, 3)
-        .and_then(|size| median(size))
-        .context("no median")?;
+    let size = Size::new(3, 3).context("no box")?;
+    let Some(form) = median(size) else {
+        return Err(anyhow!("no median"));
+    };
     let windows = windows(rt.alloc())?;
     let (sum, took) = timed(rt, || sum_of_values(&form, &windows))?;
     println!(rt; "value, terms {}: {took} us, sum {sum}", form.len())?;
@@ -105,10 +106,18 @@ fn time_medians(rt: &HostRuntime, median: &Form, height: u8, width: u8) -> anyho
     time_composition(rt, &erosion(size), median)
 }
 
+// The number of terms of a composition.
+fn terms_composed(outer: &Form, inner: &Form) -> Result<usize, Fault> {
+    match compose(outer, inner) {
+        Ok(form) => Ok(form.len()),
+        Err(fault) => Err(fault),
+    }
+}
+
 fn time_composition(rt: &HostRuntime, outer: &Form, inner: &Form) -> anyhow::Result<()> {
-    let (composed, took) = timed(rt, || compose(outer, inner))?;
-    match composed {
-        Ok(form) => println!(rt; "terms {}: {took} us", form.len())?,
+    let (outcome, took) = timed(rt, || terms_composed(outer, inner))?;
+    match outcome {
+        Ok(terms) => println!(rt; "terms {terms}: {took} us")?,
         Err(fault) => println!(rt; "declined {}: {took} us", fault.number())?,
     }
     Ok(())

@@ -25,6 +25,7 @@ fn is_image(path: &str, bytes: &[u8]) -> bool {
 
 fn report(rt: &HostRuntime, path: &str, bytes: Vec<u8>, tally: &mut Tally) -> anyhow::Result<()> {
     announce(rt, "checking", path, bytes.len() as u64)?;
+    // Not one generic function: the two refusals have no trait in common that says their numbers.
     if is_image(path, &bytes) {
         let image = Image::parse(bytes).map_err(|declined| Refused {
             number: declined.refusal.number(),

@@ -25,13 +25,11 @@ fn show(rt: &HostRuntime, path: &str, bytes: &[u8]) -> anyhow::Result<()> {
 }
 
 fn show_form(rt: &HostRuntime, path: &str, form: &Form) -> anyhow::Result<()> {
-    let count = form.len();
-    println!(rt; "{path}: form, number of terms: {count}")?;
-    for i in 0..count {
-        if let Some(term) = form.term(i) {
-            println!(rt; "  term {}", i + 1)?;
-            show_term(rt, term)?;
-        }
+    let terms = form.terms();
+    println!(rt; "{path}: form, number of terms: {}", terms.len())?;
+    for (index, term) in terms.iter().enumerate() {
+        println!(rt; "  term {}", index + 1)?;
+        show_term(rt, *term)?;
     }
     Ok(())
 }
