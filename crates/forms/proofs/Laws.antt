@@ -62,7 +62,6 @@ module _ (f g : List ℕ) where
       let z = append_none (outside f g) (outside g f) (none_left (telling f g) e) in
       agree f g w v (outside_none f g z.0) (outside_none g f z.1)
 
-
 -- ---- forms that are true on the same sets
 pub same_truth : (f g : List ℕ) → f ≡ g → SameTruth f g
 same_truth f g e = subst (λ (y : List ℕ). SameTruth f y) e (λ s l. (λ h. h, λ h. h))

@@ -84,7 +84,6 @@ decided r a b d = go r (eqb a b) refl refl
     go true false p q = absurd (eqb-false a b q (d.0 p))
     go false true p q = absurd (mathlib.Core.Bool.false≢true (sym p ∙ d.1 (eqb-true a b q)))
 
-
 -- ---- the set of a list's cells
 abbrev pub Low : List ℕ → Type 0
 Low cs = (c : ℕ) → In c cs → c < 63
