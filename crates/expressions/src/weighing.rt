@@ -14,7 +14,7 @@ use letters::Sign;
 // The highest rank of weighed cells.
 const MOST_WEIGHT: u16 = 891;
 
-// The arguments of a weighted rank.
+// The arguments of a weighted rank. Weights are told apart from faults by `match`, as forms are in joining.
 pub(crate) fn weighted(reader: &mut Reader<'_>, place: usize) -> Result<Held, ReadFault>
     ensures { Works result reader.new (weighted_of place reader.old) }
 {

@@ -69,7 +69,7 @@ fn column_at(column: &[u16], row: i32) -> Window<Pixel> {
     window_of(|cell| nearest(column, row.saturating_add(cell.row())))
 }
 
-// The opening of two rows, which moves no sample.
+// The opening of two rows, which moves no sample; by `match`, as in joined, and so where it is used.
 fn opened() -> anyhow::Result<Form> {
     match filters::opening(sized(2, 1)?) {
         Ok(form) => Ok(form),

@@ -106,7 +106,7 @@ fn time_medians(rt: &HostRuntime, median: &Form, height: u8, width: u8) -> anyho
     time_composition(rt, &erosion(size), median)
 }
 
-// The number of terms of a composition.
+// The number of terms of a composition; by `match`, as in joined.
 fn terms_composed(outer: &Form, inner: &Form) -> Result<usize, Fault> {
     match compose(outer, inner) {
         Ok(form) => Ok(form.len()),

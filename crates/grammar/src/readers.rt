@@ -111,6 +111,7 @@ impl<'a> Reader<'a> {
         }
     }
 
+    // Its front is that of `amount`: a call for both would have to give a token and its place, and be no plainer.
     /// Takes a number from minus the reach to the reach; declined at any other number or token.
     pub fn offset(&mut self, reach: u16) -> Result<i16, ReadFault>
         ensures value { Reads (λ z. z) result self.new (offset_of reach self.old) }

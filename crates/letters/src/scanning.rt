@@ -6,6 +6,7 @@ use crate::faults::LettersFault;
 use crate::tokens::{Found, Sign, Token};
 
 // What digits say: one to three, a first 0 only alone, and after a minus no 0 alone.
+// The patterns say the lengths and where a 0 may lead; a fold over the digits would need both beside it.
 fn value_of(negative: bool, digits: &[u8]) -> Option<u16>
     requires { (i : ℕ) → i < length digits.now → (48 ≤ slice_index digits.now i) × (slice_index digits.now i ≤ 57) }
     ensures is { result ≡ (if is_numeral negative digits.now then Some (value_of 0 digits.now) else None) }

@@ -60,6 +60,7 @@ impl Extent {
 }
 
 // Whether a place along one axis can be read.
+// By early returns: as one condition with `&&`, the proof of its second half was not found.
 fn within(side: u32, margin: i32, at: i32) -> bool
     ensures { IsTrue result ↔ Within side margin at }
 {
@@ -74,7 +75,7 @@ fn within(side: u32, margin: i32, at: i32) -> bool
     true
 }
 
-// Whether `count` places along one axis can be read, of which there is one.
+// Whether `count` places along one axis can be read, of which there is one. By early returns, as `within`.
 fn spans(side: u32, margin: i32, first: i32, count: usize) -> bool
     requires { 0 < count }
     ensures { IsTrue result ↔ ((k : ℕ) → k < count → Within side margin (first +ℤ pos k)) }

@@ -52,6 +52,7 @@ fn declined(rt: &HostRuntime, what: &str, number: u8, bytes: &[u8]) -> anyhow::R
 }
 
 fn starts(rt: &HostRuntime) -> anyhow::Result<()> {
+    // A call for each: a table of five unnamed parts would be no plainer.
     image(rt, "no byte", b"", 0, 0)?;
     image(rt, "one byte", b"P", 0, 0)?;
     image(rt, "plain PGM", b"P2 1 1 255\n", 1, 49)?;
