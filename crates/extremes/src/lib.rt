@@ -56,6 +56,7 @@ pub fn find_extremes<S: Source>(
         low: start,
         high: start,
     };
+    // By number: a source fills a buffer with a row, and has no rows to iterate.
     for row in 0..source.height() {
         source.read_row(row as i32, 0, scratch).ok()?;
         leaders = scan(scratch, row * width, leaders);

@@ -49,6 +49,7 @@ impl GrammarFault {
     pub fn number(self) -> u8
         ensures { result ≡ grammar_number self }
     {
+        // By `match`: a variant that holds a place cannot be cast to its number.
         match self {
             GrammarFault::TooLong => 1,
             GrammarFault::NotAllowed(_) => 3,
