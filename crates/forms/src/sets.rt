@@ -40,6 +40,7 @@ impl CellSet {
     pub fn with(self, cell: Cell) -> CellSet
         ensures value { result ≡ bit_or self (single cell) }
         ensures cells { (c : ℕ) → c < 63 → Has result c ↔ (Has self c ⊎ (c ≡ cell)) }
+        ensures fits { result < 2 ^ 63 }
     {
         CellSet {
             bits: self.bits | mask(cell),

@@ -20,4 +20,8 @@ invariant_of-result c = or_small c.self.inside.bits c.mask.result c.self.invaria
 
 pub returns : goal.returns
 returns c =
-    rw (c.mask.ensures.value, c.self.view_is) record { value = refl; cells = λ k l. one_more c.args.self c.args.cell k c.mask.ensures.cell l }
+    rw (c.mask.ensures.value, c.self.view_is) record {
+      value = refl;
+      cells = λ k l. one_more c.args.self c.args.cell k c.mask.ensures.cell l;
+      fits = or_small c.args.self (single c.args.cell) (rw (← c.self.view_is) c.self.invariant) (rw (c.mask.ensures.value) at c.mask.ensures.fits);
+    }
