@@ -168,6 +168,16 @@ enter_terms t f p q w u m = go (in_enter t f u m)
 pub some : (f : List ℕ) (u : ℕ) → In u f → f ≡ [] → ⊥
 some f u m e = subst (λ (y : List ℕ). In u y) e m
 
+pub enter_some : (t : ℕ) (f : List ℕ) → enter t f ≡ [] → ⊥
+enter_some t f = let h : TrueOn (enter t f) (λ c. Unit {0}) = enter_from (λ c. Unit {0}) t f (inr (λ c l k. tt)) in some (enter t f) h.0 h.1
+
+pub single_form : (t : ℕ) → Sound (t ∷ [])
+single_form t = ((λ u m. absurd m), tt)
+
+pub single_terms : (t : ℕ) → 0 < t → t < 2 ^ 63 → Terms (t ∷ [])
+single_terms t p q u (inl e) = (omega arith, omega arith)
+single_terms t p q u (inr m) = absurd m
+
 pub enter_put : (t : ℕ) (f : List ℕ) → covers f t ≡ false → enter t f ≡ put t (without t f)
 enter_put t f e = cond-false (covers f t) f (put t (without t f)) e
 
@@ -281,3 +291,9 @@ enter_last f t a b =
     enter_put t f (covers_none f t b)
     ∙ ap (put t) (without_none f t (λ u m s. omega (arith, a u m, sub_le t u s)))
     ∙ put_last f t a
+
+-- there is one list of them
+pub minimal_same : (ts f g : List ℕ) → Minimal ts f → Minimal ts g → f ≡ g
+minimal_same ts f g a b = same f g a.ascending b.ascending
+    (λ t m. b.whole t (a.among t m) (λ u n s. a.least t u m n s))
+    (λ t m. a.whole t (b.among t m) (λ u n s. b.least t u m n s))

@@ -1,5 +1,5 @@
 -- The first cell of a set, found by the zeros in front of it.
-use Rattle.std.proofs.Common.{◌≡◌, ℕ, zero, suc, ◌+◌, ◌-◌, ◌*◌, ◌%◌, ◌^◌, ◌<◌, ◌≤◌, Bool, true, false, eqb, ◌⊎◌, List, [], ◌∷◌, sym, refl, ap, ◌∙◌, subst, inl, inr, one-mul, pow-suc, ap₂, arith}
+use Rattle.std.proofs.Common.{◌≡◌, ℕ, zero, suc, ◌+◌, ◌-◌, ◌*◌, ◌%◌, ◌^◌, ◌<◌, ◌≤◌, Bool, eqb, ◌⊎◌, List, [], ◌∷◌, sym, ap, ◌∙◌, subst, inl, inr, one-mul, pow-suc, ap₂, arith}
 use native.Mathlib.Nat.{div-eq_of_lt}
 use lib.Bits.{bit_or}
 use lib.Count.{count_leading_zeros}
@@ -9,31 +9,30 @@ use Rattle.forms.specs.Sets.{bit, single, only_if, cells_below, cells, cells_fro
 use Rattle.forms.proofs.Bits.{bit_of_or, bit_lt, has_single, power_other}
 use Rattle.forms.proofs.Listed.{below_suc, below_zero, cells_whole}
 
--- the first cell of a set that is not empty, by the zeros in front of it
+-- the first cell of a set that is not empty, by the zeros in front of it once the unused bit is shifted out
 pub record Top (s n : ℕ) : Type 0 where
-  pub some : 1 ≤ n
-  pub cell : n - 1 < 63
-  pub low : 2 ^ (62 - (n - 1)) ≤ s
-  pub high : s < 2 * 2 ^ (62 - (n - 1))
+  pub cell : n < 63
+  pub low : 2 ^ (62 - n) ≤ s
+  pub high : s < 2 * 2 ^ (62 - n)
 
-pub top : (s : ℕ) → 0 < s → s < 2 ^ 63 → Top s (count_leading_zeros 64 s)
-top s p q = go (leading_top 64 s p (omega (arith, q)))
+top_of : (s : ℕ) → 0 < s → s < 2 ^ 63 → Top s (count_leading_zeros 64 (s * 2))
+top_of s p q = go (leading_top 64 (s * 2) (omega (arith, p)) (omega (arith, q)))
   where
-    below : (j : ℕ) → 2 ^ j ≤ s → (j ≡ 63) ⊎ ((j < 63) ⊎ (63 < j)) → j < 63
-    below j h (inl e) = absurd (omega (arith, q, subst (λ (i : ℕ). 2 ^ i ≤ s) e h))
-    below j h (inr (inl l)) = l
-    below j h (inr (inr g)) = absurd (omega (arith, q, h, pow_below 63 j g))
-
-    go : (j : ℕ) × (count_leading_zeros 64 s + suc j ≡ 64) × (2 ^ j ≤ s) × (s < 2 ^ suc j) → Top s (count_leading_zeros 64 s)
-    go (j, e, l, h) =
-        let b : j < 63 = below j l (cases_order j 63) in
-        let k : 62 - (count_leading_zeros 64 s - 1) ≡ j = omega arith in
+    go : (j : ℕ) × (count_leading_zeros 64 (s * 2) + suc j ≡ 64) × (2 ^ j ≤ s * 2) × (s * 2 < 2 ^ suc j) → Top s (count_leading_zeros 64 (s * 2))
+    go (zero, e, l, h) = absurd (omega (arith, p, h))
+    go (suc j, e, l, h) =
+        let k : 62 - count_leading_zeros 64 (s * 2) ≡ j = omega arith in
         record {
-          some = omega arith;
           cell = omega arith;
-          low = subst (λ (i : ℕ). 2 ^ i ≤ s) (sym k) l;
-          high = subst (λ (i : ℕ). s < 2 * 2 ^ i) (sym k) (omega (arith, h, pow-suc 2 j));
+          low = subst (λ (i : ℕ). 2 ^ i ≤ s) (sym k) (omega (arith, l, pow-suc 2 j));
+          high = subst (λ (i : ℕ). s < 2 * 2 ^ i) (sym k) (omega (arith, h, pow-suc 2 j, pow-suc 2 (suc j)));
         }
+
+-- the shift loses no bit of a set
+pub top : (s : ℕ) → 0 < s → s < 2 ^ 63 → Top s (count_leading_zeros 64 ((s * 2) % 2 ^ 64))
+top s p q =
+    let e : (s * 2) % 2 ^ 64 ≡ s * 2 = omega (arith, q) in
+    subst (λ (x : ℕ). Top s (count_leading_zeros 64 x)) (sym e) (top_of s p q)
 
 -- no bit at j or above
 pub below_high : (n j s : ℕ) → j ≤ n → s < 2 ^ j → cells_below n s ≡ cells_below j s
@@ -93,6 +92,6 @@ module _ (s c : ℕ) (p : 0 < s) (l : c < 63) (a : single c ≤ s) (b : s < 2 * 
 pub none_in_empty : cells 0 ≡ []
 none_in_empty = cells_whole 0 ∙ below_high 63 0 0 (omega arith) (omega arith) ∙ below_zero 0
 
--- `1 << (62 - c)`, for the cell c that n zeros in front tell, is the set of the cell
-pub mask_is : (n : ℕ) → (1 * 2 ^ (62 - (n - 1))) % 2 ^ 64 ≡ single (n - 1)
-mask_is n = one_shl (62 - (n - 1)) 64 (omega arith)
+-- `1 << (62 - c)` is the set of the cell c
+pub mask_is : (c : ℕ) → (1 * 2 ^ (62 - c)) % 2 ^ 64 ≡ single c
+mask_is c = one_shl (62 - c) 64 (omega arith)

@@ -9,3 +9,4 @@ pub mod Whole
 pub mod Steps
 pub mod Listed
 pub mod Moving
+pub mod Left

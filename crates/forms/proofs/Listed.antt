@@ -84,6 +84,26 @@ decided r a b d = go r (eqb a b) refl refl
     go true false p q = absurd (eqb-false a b q (d.0 p))
     go false true p q = absurd (mathlib.Core.Bool.false≢true (sym p ∙ d.1 (eqb-true a b q)))
 
+module _ (t c : ℕ) (l : c < 63) (b : Bool) (d : Decides b (Has t c)) where
+  here : cells_below (63 - c) t ≡ only_if b c (cells_below (63 - (c + 1)) t)
+  here =
+      let e : 63 - c ≡ suc (62 - c) = omega arith in
+      let k : 62 - c ≡ 63 - (c + 1) = omega arith in
+      let z : 62 - (62 - c) ≡ c = omega arith in
+      ap (λ (n : ℕ). cells_below n t) e ∙ below_suc (62 - c) t
+      ∙ ap (λ (v : Bool). only_if v (62 - (62 - c)) (cells_below (62 - c) t)) (sym (decided b (bit t (62 - c)) 1 d))
+      ∙ ap (λ (i : ℕ). only_if b i (cells_below (62 - c) t)) z
+      ∙ ap (λ (n : ℕ). only_if b c (cells_below n t)) k
+
+  pub cells_more : b ≡ true → cells_below (63 - c) t ≡ c ∷ cells_below (63 - (c + 1)) t
+  cells_more r = here ∙ ap (λ (v : Bool). only_if v c (cells_below (63 - (c + 1)) t)) r
+
+  pub cells_skip : b ≡ false → cells_below (63 - c) t ≡ cells_below (63 - (c + 1)) t
+  cells_skip r = here ∙ ap (λ (v : Bool). only_if v c (cells_below (63 - (c + 1)) t)) r
+
+pub cells_none : (t c : ℕ) → 63 ≤ c → cells_below (63 - c) t ≡ []
+cells_none t c l = ap (λ (n : ℕ). cells_below n t) (let e : 63 - c ≡ 0 = omega arith in e) ∙ below_zero t
+
 -- ---- the set of a list's cells
 abbrev pub Low : List ℕ → Type 0
 Low cs = (c : ℕ) → In c cs → c < 63
@@ -141,3 +161,18 @@ used_uses f c h = elim (has_used 0 f c h) [ inl p ↦ absurd (omega (arith, p, n
 pub used_small : (a : ℕ) (f : List ℕ) → a < 2 ^ 63 → Terms f → used_from a f < 2 ^ 63
 used_small a [] l w = l
 used_small a (t ∷ f) l w = used_small (bit_or a t) f (or_small a t l (w t (inl refl)).1) (λ u m. w u (inr m))
+
+used_grows : (a : ℕ) (f : List ℕ) → 0 < a → 0 < used_from a f
+used_grows a [] l = l
+used_grows a (t ∷ f) l = used_grows (bit_or a t) f (or_some a t l)
+
+pub used_some : (f : List ℕ) (t : ℕ) → In t f → Terms f → 0 < used f
+used_some [] t m w = absurd m
+used_some (u ∷ f) t m w = used_grows (bit_or 0 u) f (subst (λ (y : ℕ). 0 < y) (lib.Bits.or_comm u 0) (or_some u 0 (w u (inl refl)).0))
+
+-- the first cell of what is left is a cell of the set
+pub from_has : (t from k : ℕ) (rest : List ℕ) → cells_below (63 - from) t ≡ k ∷ rest → Has t k
+from_has t from k rest e = (in_below (63 - from) t k (omega arith) (subst (λ (y : List ℕ). In k y) (sym e) (inl refl))).1
+
+pub first_has : (t k : ℕ) (rest : List ℕ) → cells t ≡ k ∷ rest → Has t k
+first_has t k rest e = (in_cells t k (subst (λ (y : List ℕ). In k y) (sym e) (inl refl))).1

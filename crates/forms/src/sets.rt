@@ -62,7 +62,8 @@ impl CellSet {
         if self.bits == 0 {
             return None;
         }
-        let number = self.bits.leading_zeros() - 1;
+        // Without the unused bit, the zeros in front are the number of the first cell.
+        let number = (self.bits << 1).leading_zeros();
         let cell = Cell {
             number: number as u8,
         };
@@ -183,6 +184,19 @@ impl Term {
         ensures some { cells self ≢ [] }
     {
         CellSet::from(self).cells()
+    }
+
+    /// The term's first cell that is numbered `from` or above, if there is one.
+    pub fn cell_from(self, from: u8) -> Option<Cell>
+        ensures { MatchOption result (cells_from from self ≡ []) (λ k. (from ≤ k) × (cells_from from self ≡ k ∷ cells_from (k + 1) self)) }
+    {
+        for number in from..Cell::COUNT {
+            let cell = Cell { number };
+            if self.contains(cell) {
+                return Some(cell);
+            }
+        }
+        None
     }
 
     /// The term's first cell.

@@ -4,3 +4,4 @@ pub mod Letters
 pub mod Beginnings
 pub mod Spelling
 pub mod WordLetters
+pub mod Places

@@ -1,5 +1,6 @@
 // Reading a text token by token: a sign, a number in its range, the end of the text.
-ghost use Rattle.std.specs.Prelude.{◌≡◌, ◌≤◌, IfOk, OnErr, unsigned_abs};
+ghost use Rattle.std.specs.Prelude.{◌≡◌, ℕ, ◌≤◌, List, ◌++◌, IfOk, OnErr, unsigned_abs};
+ghost use Rattle.letters.specs.Tokens.{Placed};
 ghost use Rattle.letters.specs.Scanning.{tokens_at};
 ghost use Rattle.grammar.specs.Expr.{Expr};
 ghost use Rattle.grammar.specs.Reading.{sign_of, amount_of, offset_of, end_of};
@@ -47,6 +48,16 @@ impl<'a> Reader<'a> {
         ensures { result ≡ self.now }
     {
         Reader::at(self.text, self.at)
+    }
+
+    /// The place of the next token, or of the end: from there on a text that was read so far has the tokens that are left.
+    pub fn place(&self) -> usize
+        ensures { (text : List ℕ) (at : ℕ) (read : List Placed) → tokens_at text at ≡ read ++ self.now → tokens_at text result ≡ self.now }
+    {
+        match self.fork().next() {
+            Ok(found) => found.place,
+            Err(fault) => fault.place,
+        }
     }
 
     // Takes the next token; the end of the text stays.

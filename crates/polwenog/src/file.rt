@@ -21,7 +21,9 @@ pub(crate) fn read_whole(rt: &HostRuntime, path: &str) -> io::Result<Vec<u8>> {
     let mut file = File::open(rt, path)?;
     let length = file.metadata()?.len();
     announce(rt, "reading", path, length)?;
-    let mut bytes = Vec::with_capacity(rt.alloc(), length as usize)?;
+    // A byte of room past the length: the read that meets the end is made there, and the buffer need not grow for it.
+    let room = (length as usize).saturating_add(1);
+    let mut bytes = Vec::with_capacity(rt.alloc(), room)?;
     file.read_to_end(&mut bytes)?;
     Ok(bytes)
 }

@@ -7,6 +7,7 @@ use elements::Pixel;
 use forms::{Cell, Form};
 use reports::{Marked, Refusal, StoredBytes};
 use sources::Source;
+use std::alloc::AllocError;
 use std::env::Args;
 use std::fs;
 use std::io::Write;
@@ -133,7 +134,8 @@ fn sample_at(witness: &Witness<Pixel>, cell: Cell) -> Pixel {
 // Writes the window as an image.
 fn write_window(rt: &HostRuntime, witness: &Witness<Pixel>, path: &str) -> anyhow::Result<()> {
     let mut bytes = Vec::new(rt.alloc());
-    write!(bytes, "P5\n{WIDTH} {HEIGHT}\n{HIGH}\n")?;
+    // Into memory only want of memory can fail, and that is what is then told.
+    write!(bytes, "P5\n{WIDTH} {HEIGHT}\n{HIGH}\n").map_err(|_| AllocError)?;
     for cell in (0..Cell::COUNT).filter_map(Cell::numbered) {
         bytes.push((sample_at(witness, cell).0 & 255) as u8)?;
     }

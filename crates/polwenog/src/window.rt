@@ -3,12 +3,18 @@ use comparing::WIDTH;
 use forms::Cell;
 use std::fmt;
 
-// Draws a window: a line for each of its rows, with the mark of each cell.
-pub(crate) fn draw<F: FnMut(Cell) -> char>(rt: &HostRuntime, mark: F) -> anyhow::Result<()>
+// Draws a window: a line for each of its rows, with the mark of each cell. The marks stand in an array, so that a
+// window is drawn with no memory to ask for.
+pub(crate) fn draw<F: FnMut(Cell) -> char>(rt: &HostRuntime, mut mark: F) -> anyhow::Result<()>
     requires { (f : _) (cell : _) → F.pre f cell }
 {
-    let cells = (0..Cell::COUNT).filter_map(Cell::numbered);
-    let marks: Vec<char> = cells.map(mark).collect(rt.alloc())?;
+    let mut marks = ['.'; Cell::COUNT as usize];
+    for (slot, cell) in marks
+        .iter_mut()
+        .zip((0..Cell::COUNT).filter_map(Cell::numbered))
+    {
+        *slot = mark(cell);
+    }
     for row in marks.chunks_exact(WIDTH as usize) {
         println!(rt; "   {}", Row(row))?;
     }

@@ -21,7 +21,8 @@ impl Form {
         if self.holds(term) || self.covers(CellSet::from(term)) {
             return Ok(());
         }
-        let mut table = self.without(term);
+        let mut table = self.table;
+        without(&mut table, term);
         put(&mut table, term)?;
         *self = Form { table };
         Ok(())
@@ -31,28 +32,42 @@ impl Form {
     fn holds(&self, term: Term) -> bool
         ensures { result ≡ holds (terms_of self.now) term }
     {
-        self.terms().contains(&term)
+        let terms = self.terms();
+        let place = terms.partition_point(|other| *other < term);
+        match terms.get(place) {
+            Some(other) => *other == term,
+            None => false,
+        }
     }
 
     // Whether some term is inside the set.
     pub(super) fn covers(&self, set: CellSet) -> bool
         ensures { result ≡ covers (terms_of self.now) set }
     {
-        self.terms().iter().any(|term| term.within(set))
-    }
-
-    // The terms that do not contain a term.
-    fn without(&self, term: Term) -> Table<Term, MOST_TERMS>
-        ensures { items_of result ≡ without term (terms_of self.now) }
-    {
-        let mut kept = Table::new(term);
-        for other in self.terms() {
-            if !term.inside(*other) {
-                let _ = kept.push(*other);
+        // By `for`: the loop that `any` becomes takes a third longer.
+        for term in self.terms() {
+            if term.within(set) {
+                return true;
             }
         }
-        kept
+        false
     }
+}
+
+// Takes out the terms that contain a term.
+fn without(table: &mut Table<Term, MOST_TERMS>, term: Term)
+    ensures { items_of table.new ≡ without term (items_of table.old) }
+{
+    let mut kept = 0;
+    // By index: what is kept goes over what was read. Pushed into another table, a term waits for the count before it.
+    for index in 0..table.as_slice().len() {
+        let other = table.as_slice()[index];
+        if !term.inside(other) {
+            table.set(kept, other);
+            kept += 1;
+        }
+    }
+    table.truncate(kept);
 }
 
 // Puts a term in its place among ascending terms, of which it is none.

@@ -1,5 +1,6 @@
 // What can be asked of a log.
-ghost use Rattle.std.specs.Prelude.{◌≡◌, ◌<◌, MatchResult};
+ghost use Rattle.std.specs.Prelude.{◌≡◌, ◌<◌, ◌≤◌, length, MatchResult};
+ghost use Rattle.images.specs.Rows.{Written};
 ghost use Rattle.images.specs.Records.{event_at};
 ghost use Rattle.images.specs.Parsed.{count, events, LogOutcome};
 ghost use Rattle.std.proofs.Common.{rules};
@@ -12,6 +13,9 @@ use sources::{EDGE_MARGIN, LONGEST, ReadRefusal, Source};
 
 // The bytes of a record: eight of key, four of stamp.
 const RECORD_BYTES: usize = 12;
+
+// The bytes of its key; its stamp lies behind them.
+const KEY_BYTES: usize = 8;
 
 // A log has one column.
 const WIDTH: u32 = 1;
@@ -39,13 +43,22 @@ impl Log {
         ensures { result ≡ event_at self.now.bytes.items row }
     {
         let record = &self.bytes.as_slice()[RECORD_BYTES * row as usize..];
-        let (key, rest) = record.split_first_chunk().unwrap();
-        let (stamp, _) = rest.split_first_chunk().unwrap();
+        let (key, _) = record.split_first_chunk().unwrap();
+        let (stamp, _) = record[KEY_BYTES..].split_first_chunk().unwrap();
         Event {
             key: u64::from_be_bytes(*key),
             stamp: u32::from_be_bytes(*stamp),
         }
     }
+}
+
+// Writes an event at each place from `start` on; those before it stay.
+fn fill_from(out: &mut [Event], start: usize, event: Event)
+    requires { start ≤ length out.old }
+    ensures { Written out.old out.new start (length out.old) (λ _. event) }
+{
+    let (_, rest) = out.split_at_mut(start);
+    rest.fill(event);
 }
 
 impl Source for Log {
@@ -74,7 +87,7 @@ impl Source for Log {
 
     fn read_row(&self, row: i32, first: i32, out: &mut [Event]) -> Result<(), ReadRefusal> {
         let row = self.extent().place_row(row, first, out.len())?;
-        out.fill(self.at(row));
+        fill_from(out, 0, self.at(row));
         Ok(())
     }
 }

@@ -1,5 +1,5 @@
 // What can be asked of a table, and what can be added.
-ghost use Rattle.std.specs.Prelude.{◌≡◌, ◌<◌, ◌≤◌, [], ◌∷◌, ◌++◌, length, take, drop, OnOk, OnErr};
+ghost use Rattle.std.specs.Prelude.{◌≡◌, ◌<◌, ◌≤◌, [], ◌∷◌, ◌++◌, length, take, drop, slice_set, OnOk, OnErr};
 ghost use Rattle.tables.specs.Table.{items_of};
 
 use super::Table;
@@ -22,6 +22,23 @@ impl<T: Copy, const N: usize> Table<T, N> {
         ensures room { length (items_of self.now) ≤ N }
     {
         &self.items[..self.count]
+    }
+
+    /// Puts a value in the place of the one at an index; where there is none, the table stays.
+    pub fn set(&mut self, at: usize, value: T)
+        ensures value { at < length (items_of self.old) → items_of self.new ≡ slice_set (items_of self.old) at value }
+        ensures kept { length (items_of self.old) ≤ at → self.new ≡ self.old }
+    {
+        if at < self.count {
+            self.items[at] = value;
+        }
+    }
+
+    /// Leaves the first values, as many as a length says, or all where there are no more.
+    pub fn truncate(&mut self, len: usize)
+        ensures { items_of self.new ≡ take len (items_of self.old) }
+    {
+        self.count = self.count.min(len);
     }
 
     /// Puts a value behind the others; where N stand already, it is declined and the table stays.

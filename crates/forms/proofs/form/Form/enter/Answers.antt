@@ -5,7 +5,7 @@ use Rattle.forms.specs.declared.faults.Fault.{Fault}
 use Rattle.forms.specs.declared.faults.Fault.TheVariants.{TooManyTerms}
 use Rattle.forms.specs.Faults.{fault_number}
 use Rattle.forms.specs.Terms.{most_terms, Terms, Ascending, Apart}
-use Rattle.forms.specs.Entering.{holds, covers, without, put, enter, bounded, declined, Minimal}
+use Rattle.forms.specs.Entering.{covers, without, put, enter, bounded, declined, Minimal}
 use Rattle.forms.specs.Parts.{terms_of, told, Entered}
 use Rattle.forms.proofs.Forms.{Sound, apart, sound_ascending}
 use Rattle.forms.proofs.Entered.{enters, enter_terms, entered, bounded_made, bounded_full, length_enter, enter_minimal, in_without, without_form}
@@ -19,7 +19,7 @@ pub put-requires : goal.put-requires
 put-requires c =
     let f : List ℕ = terms_of c.args.self.now in
     let t : ℕ = c.args.term in
-    rw c.without-table.ensures record {
+    rw c.without.ensures record {
       ascending = sound_ascending (without t f) (without_form t f (sound_form c.args.self.now));
       new = λ m. (in_without t f t m).1 (sub_refl t);
     }
@@ -50,7 +50,7 @@ returns-in_err-put c =
     let f : List ℕ = terms_of c.args.self.now in
     let t : ℕ = c.args.term in
     let b : covers f t ≡ false = ap (covers f) (sym c.from.ensures.0) ∙ sym c.covers.ensures ∙ c.if-covers.false in
-    let l : most_terms < length (enter t f) = omega (arith, length_enter t f _ b c.without-table.ensures, c.in_err-put.ensures.full) in
+    let l : most_terms < length (enter t f) = omega (arith, length_enter t f _ b c.without.ensures, c.in_err-put.ensures.full) in
     let q = refused c.from_residual.result t f c.from_residual.ensures.1 (enter_minimal t f (sound_form c.args.self.now)) l in
     record { exact = q.0 ∙ sym (bounded_full (enter t f) l); minimal = q.1; kept = search rules }
 
@@ -63,10 +63,10 @@ invariant_of-self c =
     let f : List ℕ = terms_of c.args.self.now in
     let t : ℕ = c.args.term in
     let b : covers f t ≡ false = ap (covers f) (sym c.from.ensures.0) ∙ sym c.covers.ensures ∙ c.if-covers.false in
-    let e = new_terms f _ (items_of c.put.new.table) t b c.without-table.ensures c.in_ok-put.ensures.ok in
+    let e = new_terms f _ (items_of c.put.new.table) t b c.without.ensures c.in_ok-put.ensures.ok in
     let w : Sound f = sound_form c.args.self.now in record {
       sets = ∣ subst Terms e (enter_terms t f (omega (arith, c.from.ensures.0, c.from.ensures.1)) (omega (arith, c.from.ensures.0, c.from.ensures.2)) (sets_form c.args.self.now)) ∣₁;
-      some = omega (arith, ap length e, length_enter t f _ b c.without-table.ensures);
+      some = omega (arith, ap length e, length_enter t f _ b c.without.ensures);
       ascending = ∣ subst Ascending e (sound_ascending (enter t f) (enters t f w)) ∣₁;
       apart = ∣ subst Apart e (apart (enter t f) (enters t f w)) ∣₁;
     }
@@ -77,8 +77,8 @@ returns c =
     let t : ℕ = c.args.term in
     let h : List ℕ = items_of c.put.new.table in
     let b : covers f t ≡ false = ap (covers f) (sym c.from.ensures.0) ∙ sym c.covers.ensures ∙ c.if-covers.false in
-    let e : enter t f ≡ h = new_terms f _ h t b c.without-table.ensures c.in_ok-put.ensures.ok in
-    let l : length h ≤ most_terms = omega (arith, ap length e, length_enter t f _ b c.without-table.ensures, c.in_ok-put.ensures.room) in
+    let e : enter t f ≡ h = new_terms f _ h t b c.without.ensures c.in_ok-put.ensures.ok in
+    let l : length h ≤ most_terms = omega (arith, ap length e, length_enter t f _ b c.without.ensures, c.in_ok-put.ensures.room) in
     record {
       exact = sym (ap bounded e ∙ bounded_made h l);
       minimal = subst (λ (y : List ℕ). Minimal (t ∷ f) y) e (enter_minimal t f (sound_form c.args.self.now));

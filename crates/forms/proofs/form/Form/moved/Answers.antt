@@ -1,10 +1,10 @@
-use Rattle.std.proofs.Common.{◌≡◌, ℕ, ◌+◌, ◌<◌, ◌≤◌, true, List, [], ◌∷◌, ◌++◌, map, length, take, ◌+ℤ◌, sym, ap, ◌∙◌, subst, arith}
+use Rattle.std.proofs.Common.{◌≡◌, ℕ, ◌+◌, ◌<◌, ◌≤◌, List, [], ◌∷◌, ◌++◌, map, length, take, ◌+ℤ◌, sym, ap, ◌∙◌, subst, arith}
 use Rattle.std.proofs.lemmas.List.{length-map, take_all, take_more, length-take-le, map-append}
 use Rattle.tables.specs.Table.{items_of}
 use Rattle.tables.proofs.Pushing.{pushed}
 use Rattle.forms.specs.Window.{row_of, column_of}
-use Rattle.forms.specs.Sets.{movable, moved}
-use Rattle.forms.specs.Terms.{In, Terms, Ascending, Apart, used}
+use Rattle.forms.specs.Sets.{moved}
+use Rattle.forms.specs.Terms.{In, Terms, Ascending, Apart}
 use Rattle.forms.specs.Places.{Picks, TrueAt}
 use Rattle.forms.specs.Parts.{terms_of}
 use Rattle.forms.proofs.Forms.{Sound, apart, sound_ascending}

@@ -1,4 +1,4 @@
-use Rattle.std.proofs.Common.{◌≡◌, ℕ, ltb, List, Ok, Err, OnOk, sym, ◌∙◌, rules, tests}
+use Rattle.std.proofs.Common.{ℕ, ltb, List, rules, tests}
 use Rattle.std.proofs.lemmas.List.Sorted.{IsPartitionPoint-from_clause}
 use Rattle.tables.specs.Table.{items_of}
 use Rattle.forms.proofs.Placed.{put_there, parted}

@@ -1,4 +1,4 @@
-use Rattle.std.proofs.Common.{ap, sym, ◌∙◌}
+use Rattle.std.proofs.Common.{ap, ◌∙◌}
 use Rattle.forms.specs.Sets.{cells}
 use Rattle.forms.proofs.Listed.{cells_some}
 use Rattle.forms.proofs.sets.Term.cells.Goals as goal

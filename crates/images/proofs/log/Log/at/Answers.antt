@@ -10,7 +10,8 @@ returns c =
     let bs : List ℕ = vec_items log.bytes in
     let start = record_bytes * c.args.row in
     let inside : start + record_bytes + 0 ≤ length bs = omega (arith, log.whole) in
-    let record_from : take (length c.as_slice.result.now - start) (drop start c.as_slice.result.now) ≡ drop start bs =
+    let entry : List ℕ = take (length c.as_slice.result.now - start) (drop start c.as_slice.result.now) in
+    let record_from : entry ≡ drop start bs =
     take_rest c.as_slice.result.now start ∙ ap (drop start) c.as_slice.ensures.value in
     let first = rw c.unwrap.ensures at c.split_first_chunk.ensures.cases in
     let second = rw c.unwrap-2.ensures at c.split_first_chunk-2.ensures.cases in
@@ -18,5 +19,5 @@ returns c =
     c.from_be_bytes.ensures ∙ eight_at bs c.unwrap.result.0.now start (omega arith) (first.0 ∙ ap (take 8) record_from) in
     let stamp : c.from_be_bytes-2.result ≡ big_endian bs (start + 8) 4 =
     c.from_be_bytes-2.ensures
-    ∙ four_at bs c.unwrap-2.result.0.now (start + 8) (omega arith) (second.0 ∙ ap (take 4) (first.1 ∙ ap (drop 8) record_from ∙ drop-drop 8 start bs)) in
+    ∙ four_at bs c.unwrap-2.result.0.now (start + 8) (omega arith) (second.0 ∙ ap (take 4) (take_rest entry 8 ∙ ap (drop 8) record_from ∙ drop-drop 8 start bs)) in
     cc

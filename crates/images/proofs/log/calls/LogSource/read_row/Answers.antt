@@ -1,8 +1,6 @@
-use Rattle.std.proofs.Common.{◌≡◌, ℕ, List, length, get_or, vec_items, ap, ◌∙◌, arith}
-use Rattle.std.proofs.lemmas.List.{get_or-replicate}
+use Rattle.std.proofs.Common.{◌≡◌, ℕ, length, vec_items, ap, ◌∙◌, arith}
 use Rattle.sources.specs.Edges.{nearest}
 use Rattle.sources.proofs.Rows.{placed}
-use Rattle.elements.specs.declared.event.Event.{Event}
 use Rattle.images.specs.Parsed.{events}
 use Rattle.images.specs.Records.{event_at}
 use Rattle.images.proofs.log.calls.LogSource.read_row.Goals as goal
@@ -37,5 +35,4 @@ returns-clause-filled c =
     let a = p.0 r in
     let w = c.in_ok-row.was in
     let row : c.in_ok-row.row ≡ nearest m.height c.args.row = cc in
-    let filled = c.fill.ensures.after (λ y e. e) in
-    ap (λ (xs : List Event). get_or xs k d) filled ∙ get_or-replicate (length c.args.out.now) k c.at.result d l ∙ c.at.ensures ∙ ap (event_at (vec_items c.args.self.now.bytes)) row
+    c.fill_from.ensures.inside k d (omega arith) l ∙ c.at.ensures ∙ ap (event_at (vec_items c.args.self.now.bytes)) row
